@@ -1,0 +1,104 @@
+-- The four calls: from what a call is given to its outcome, refusals included.
+use Prim.Native.Nat.{ℕ, _+_, _*_, _/_}
+use mathlib.Core.Path.{_≡_}
+use mathlib.Core.Bool.{Bool, true, false, not, cond}
+use mathlib.Core.List.{List, [], _∷_, _++_}
+use lib.ListN.{length}
+use lib.Dec.{ltb, eqb}
+use Rattle.wire.specs.Numbers.{bytesAt, put}
+use Rattle.wire.specs.Replies.{Reply, written}
+use Rattle.wire.specs.Run.{Hunted}
+use Rattle.peak.specs.Pairs.{seenAll, allFinite}
+use Rattle.record.specs.Record.{Record, withFlags, withPairs, withReading}
+use Rattle.record.specs.Layout.{recordSize, bytesOf, recordOf}
+use Rattle.record.specs.Form.{wellFormed}
+use Rattle.record.specs.Births.{factory, poweredOn}
+use Rattle.board.specs.Hunt.{huntOf, recordAfter}
+use Rattle.board.specs.declared.Ending.{Ending}
+use Rattle.board.specs.declared.Ending.the-variants.{Done, BadRecord, BadLength, NoRoom, NotFinite}
+use Rattle.board.specs.declared.Answer.{Answer}
+
+-- the number of each ending
+abbrev pub resultOf : Ending → ℕ
+resultOf Done = 0
+resultOf BadRecord = 1
+resultOf BadLength = 2
+resultOf NoRoom = 3
+resultOf NotFinite = 4
+
+-- what a call leaves: its answer, the record's bytes, the output buffer ([] for a call without one)
+pub record Outcome : Type 0 where
+  pub answer : Answer
+  pub kept : List ℕ
+  pub output : List ℕ
+
+-- "A refusal returns its number and zero counts, and writes to no buffer."
+abbrev pub refused : Ending → List ℕ → List ℕ → Outcome
+refused why s o = record { answer = record { result = resultOf why; written = 0; skipped = 0 }; kept = s; output = o }
+
+-- "0 done; counts are bytes written and bytes skipped; output behind the written bytes is unchanged"
+abbrev pub done : Record → List ℕ → ℕ → List ℕ → Outcome
+done r out skipped o = record { answer = record { result = resultOf Done; written = length out; skipped = skipped }; kept = bytesOf r; output = put o 0 out }
+
+-- ---- factory and power-on
+
+-- "(factory: only the length)"
+unfoldable pub factoryCall : List ℕ → Outcome
+unfolding factory bytesOf put
+factoryCall s = cond (eqb (length s) recordSize) (done factory [] 0 []) (refused BadRecord s [])
+
+unfoldable pub powerOnCall : List ℕ → Outcome
+unfolding poweredOn bytesOf recordOf put wellFormed
+powerOnCall s = cond (wellFormed s) (done (poweredOn (recordOf s)) [] 0 []) (refused BadRecord s [])
+
+-- ---- bytes
+
+abbrev pub inputMost : ℕ
+inputMost = 4096
+
+-- "19 times the whole part of (pending + input) / 4"
+abbrev pub roomFor : ℕ → ℕ
+roomFor n = 19 * (n / 4)
+
+abbrev pub served : Hunted Record Reply → List ℕ → Outcome
+served h o = done (recordAfter h) (written (h .said)) (h .skipped) o
+
+unfoldable pub bytesCall : List ℕ → List ℕ → List ℕ → Outcome
+unfolding huntOf recordAfter written bytesOf recordOf put wellFormed
+bytesCall s input o =
+    cond (not (wellFormed s)) (refused BadRecord s o)
+    (cond (ltb inputMost (length input)) (refused BadLength s o)
+    (cond (ltb (length o) (roomFor (length (recordOf s .pending) + length input))) (refused NoRoom s o)
+    (served (huntOf (recordOf s) input) o)))
+
+-- ---- samples
+
+abbrev pub sampleSize : ℕ
+sampleSize = 24
+
+abbrev pub frameSize : ℕ
+frameSize = 28
+
+-- "If sending is on, the output gets AA 15 B0, the 24 bytes, 85 (28 bytes); else nothing."
+abbrev pub measured : List ℕ → List ℕ
+measured sample = 0xAA ∷ 0x15 ∷ 0xB0 ∷ bytesAt sampleSize sample 0 ++ (0x85 ∷ [])
+
+unfoldable pub readingOf : Record → List ℕ → Record
+unfolding withFlags withPairs seenAll
+readingOf r sample = withPairs (withFlags r (withReading (r .flags) true)) (seenAll (r .flags .reading) (r .pairs) sample 0)
+
+unfoldable pub samplesCall : List ℕ → List ℕ → List ℕ → Outcome
+unfolding readingOf allFinite bytesOf recordOf put wellFormed
+samplesCall s sample o =
+    cond (not (wellFormed s)) (refused BadRecord s o)
+    (cond (not (eqb (length sample) sampleSize)) (refused BadLength s o)
+    (cond (ltb (length o) frameSize) (refused NoRoom s o)
+    (cond (not (allFinite 6 sample 0)) (refused NotFinite s o)
+    (done (readingOf (recordOf s) sample) (cond (recordOf s .flags .sending) (measured sample) []) 0 o))))
+
+-- ---- what a call's contract says: it left exactly its outcome
+
+pub record Leaves (z : Outcome) (answer : Answer) (kept output : List ℕ) : Type 0 where
+  pub answered : answer ≡ z .answer
+  pub keeps : kept ≡ z .kept
+  pub puts : output ≡ z .output

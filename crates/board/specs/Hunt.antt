@@ -1,0 +1,19 @@
+-- The board's hunt: the pending bytes and the input, cut by 9n and An, each frame carried out on the record that the one before it left.
+use Prim.Native.Nat.{ℕ}
+use mathlib.Core.List.{List, _++_}
+use Rattle.wire.specs.Frames.{Heads}
+use Rattle.wire.specs.Serial.{serial}
+use Rattle.wire.specs.Replies.{Reply}
+use Rattle.wire.specs.Run.{Hunted, hunt}
+use Rattle.record.specs.Record.{Record, withPending}
+use Rattle.command.specs.Step.{stepOf, answer}
+
+-- "The bytes call joins the pending bytes of the record and its input, and hunts from the left (*house*)"
+unfoldable pub huntOf : Record → List ℕ → Hunted Record Reply
+unfolding serial hunt stepOf
+huntOf r input = hunt serial answer r (r .pending ++ input)
+
+-- "Waiting bytes (at most 18) become the new pending bytes."
+unfoldable pub recordAfter : Hunted Record Reply → Record
+unfolding withPending
+recordAfter h = withPending (h .state) (h .waiting)

@@ -1,0 +1,73 @@
+-- What a command that passed its checks does to the record, and the data of its reply, row by row.
+use Prim.Native.Nat.{ℕ, _+_, _-_}
+use mathlib.Core.Bool.{Bool, true, false, cond}
+use mathlib.Core.List.{List, [], _∷_, _++_}
+use lib.ListN.{length, getD, set}
+use lib.Dec.{ltb, eqb}
+use Rattle.wire.specs.Numbers.{halfAt, wordAt, bytes2, bytes4}
+use Rattle.peak.specs.Pairs.{noPair, pairBytes}
+use Rattle.record.specs.Record.{Record, Settings, Flags, withFlags, withSettings, withOutputs, withModel, withOpened, withUnlocked, withSending, withOutput, withPower, withStep, withMode, withOnOff, withInputs, withInterval, withFilter, withName}
+use Rattle.record.specs.Limits.{beforeZero}
+use Rattle.command.specs.declared.Command.{Command}
+use Rattle.command.specs.declared.Command.the-variants.{Open, Close, ReadPower, SetPower, ReadStep, SetStep, ReadMode, SetMode, ReadName, SetName, ReadOnOff, SetOnOff, SetInput, ReadInput, SwitchOutput, SetInterval, ReadInterval, Unlock, ReadLock, ReadModel, SetModel, StopSending, StartSending, ReadFilter, SetFilter, ReadPair}
+
+unfoldable pub effectOf : Command → Record → List ℕ → Record
+unfolding withFlags withSettings withOutputs withModel beforeZero
+effectOf Open r p = withFlags r (withOpened (r .flags) true)
+effectOf Close r p = withFlags r (withOpened (r .flags) false)
+effectOf ReadPower r p = r
+effectOf SetPower r p = withSettings r (withPower (r .settings) (halfAt p 0))
+effectOf ReadStep r p = r
+effectOf SetStep r p = withSettings r (withStep (r .settings) (getD p 0 0))
+effectOf ReadMode r p = r
+effectOf SetMode r p = withSettings r (withMode (r .settings) (getD p 0 0))
+effectOf ReadName r p = r
+effectOf SetName r p = withSettings r (withName (r .settings) p)
+effectOf ReadOnOff r p = r
+effectOf SetOnOff r p = withSettings r (withOnOff (r .settings) (getD p 0 0))
+effectOf SetInput r p = withSettings r (withInputs (r .settings) (set (r .settings .inputs) (getD p 0 0 - 2) (getD p 1 0)))
+effectOf ReadInput r p = r
+effectOf SwitchOutput r p = withOutputs r (withOutput (r .outputs) (getD p 0 0) (eqb (getD p 1 0) 1))
+effectOf SetInterval r p = withSettings r (withInterval (r .settings) (getD p 0 0))
+effectOf ReadInterval r p = r
+effectOf Unlock r p = withFlags r (withUnlocked (r .flags) true)
+effectOf ReadLock r p = r
+effectOf ReadModel r p = r
+effectOf SetModel r p = withModel r (beforeZero p)
+effectOf StopSending r p = withFlags r (withSending (r .flags) false)
+effectOf StartSending r p = withFlags r (withSending (r .flags) true)
+effectOf ReadFilter r p = r
+effectOf SetFilter r p = withSettings r (withFilter (r .settings) (wordAt p 0))
+effectOf ReadPair r p = r
+
+-- "a 00 follows if shorter than 15"
+abbrev pub closedModel : List ℕ → List ℕ
+closedModel m = m ++ cond (ltb (length m) 15) (0x00 ∷ []) []
+
+unfoldable pub dataOf : Command → Record → List ℕ → List ℕ
+dataOf Open r p = 0x00 ∷ 0x14 ∷ []
+dataOf Close r p = []
+dataOf ReadPower r p = bytes2 (r .settings .power)
+dataOf SetPower r p = []
+dataOf ReadStep r p = r .settings .step ∷ []
+dataOf SetStep r p = []
+dataOf ReadMode r p = r .settings .mode ∷ []
+dataOf SetMode r p = []
+dataOf ReadName r p = r .settings .name
+dataOf SetName r p = []
+dataOf ReadOnOff r p = r .settings .onOff ∷ []
+dataOf SetOnOff r p = []
+dataOf SetInput r p = []
+dataOf ReadInput r p = getD (r .settings .inputs) (getD p 0 0 - 2) 0 ∷ []
+dataOf SwitchOutput r p = []
+dataOf SetInterval r p = []
+dataOf ReadInterval r p = r .settings .interval ∷ []
+dataOf Unlock r p = []
+dataOf ReadLock r p = cond (r .flags .unlocked) 0x08 0x00 ∷ []
+dataOf ReadModel r p = closedModel (r .model)
+dataOf SetModel r p = []
+dataOf StopSending r p = []
+dataOf StartSending r p = []
+dataOf ReadFilter r p = bytes4 (r .settings .filter)
+dataOf SetFilter r p = []
+dataOf ReadPair r p = 0x00 ∷ pairBytes (getD (r .pairs) (getD p 0 0 - 1) noPair)

@@ -1,0 +1,69 @@
+-- The refusals, in their order: the first that applies is the reply.
+use Prim.Native.Nat.{ℕ}
+use mathlib.Core.Bool.{Bool, true, false, cond}
+use mathlib.Core.List.{List}
+use lib.ListN.{length}
+use lib.Dec.{leb, eqb}
+use Rattle.wire.specs.Numbers.{wordAt}
+use Rattle.wire.specs.declared.Range.{Range}
+use Rattle.wire.specs.declared.Range.the-variants.{Fits, Big, Small}
+use Rattle.record.specs.Record.{Record}
+use Rattle.command.specs.declared.Command.{Command}
+use Rattle.command.specs.declared.Listed.{Listed}
+use Rattle.command.specs.declared.Listed.the-variants.{Built, NotBuilt, Unlisted}
+use Rattle.command.specs.declared.Counted.{Counted}
+use Rattle.command.specs.declared.Counted.the-variants.{Right, Wrong}
+use Rattle.command.specs.declared.Need.{Need}
+use Rattle.command.specs.declared.Need.the-variants.{Nothing, Opened, Closed, Unlocked, Code}
+use Rattle.command.specs.declared.Access.{Access}
+use Rattle.command.specs.declared.Access.the-variants.{Given, Missing, WrongCode}
+use Rattle.command.specs.declared.Refusal.{Refusal}
+use Rattle.command.specs.declared.Refusal.the-variants.{Unknown, Unbuilt, Parameters, NoAccess, BadCode, TooBig, TooSmall}
+use Rattle.command.specs.declared.Verdict.{Verdict}
+use Rattle.command.specs.declared.Verdict.the-variants.{Do, Refuse}
+use Rattle.command.specs.Tables.{listedOf, spanOf, countedOf, needOf, rangeOf}
+
+-- the status of each refusal; "One 62 for all of these is *house*."
+abbrev pub statusOf : Refusal → ℕ
+statusOf Unknown = 0x40
+statusOf Unbuilt = 0x41
+statusOf Parameters = 0x5B
+statusOf NoAccess = 0x62
+statusOf BadCode = 0x62
+statusOf TooBig = 0x54
+statusOf TooSmall = 0x55
+
+-- "the first cause of this list that applies and no later one looked at"
+unfoldable pub accessOf : Need → Record → List ℕ → Access
+accessOf Nothing r p = Given
+accessOf Opened r p = cond (r .flags .opened) Given Missing
+accessOf Closed r p = cond (r .flags .opened) Missing Given
+accessOf Unlocked r p = cond (r .flags .opened) Missing (cond (r .flags .unlocked) Given Missing)
+accessOf Code r p = cond (r .flags .opened) Missing (cond (leb 3 (r .tries)) Missing (cond (eqb (wordAt p 0) (r .code)) Given WrongCode))
+
+-- 54, 55
+abbrev pub byRange : Command → Range → Verdict
+byRange c Fits = Do c
+byRange c Big = Refuse TooBig
+byRange c Small = Refuse TooSmall
+
+-- 62
+abbrev pub byAccess : Command → List ℕ → Access → Verdict
+byAccess c p Given = byRange c (rangeOf c p)
+byAccess c p Missing = Refuse NoAccess
+byAccess c p WrongCode = Refuse BadCode
+
+-- 5B
+abbrev pub byCount : Command → Record → List ℕ → Counted → Verdict
+byCount c r p Right = byAccess c p (accessOf (needOf c) r p)
+byCount c r p Wrong = Refuse Parameters
+
+-- 40, 41
+abbrev pub byNumber : Record → List ℕ → Listed → Verdict
+byNumber r p (Built c) = byCount c r p (countedOf c (length p))
+byNumber r p NotBuilt = Refuse Unbuilt
+byNumber r p Unlisted = Refuse Unknown
+
+unfoldable pub verdictOf : Record → ℕ → ℕ → List ℕ → Verdict
+unfolding listedOf spanOf countedOf needOf accessOf rangeOf
+verdictOf r head number p = byNumber r p (listedOf head number)

@@ -1,0 +1,4 @@
+pub mod Tables
+pub mod Effects
+pub mod Judge
+pub mod Step

@@ -1,0 +1,203 @@
+-- The two command tables: numbers, parameters, access and ranges, row by row.
+use Prim.Native.Nat.{ℕ, _/_}
+use mathlib.Core.Bool.{Bool, true, false, cond, _&&_}
+use mathlib.Core.List.{List, [], _∷_}
+use lib.ListN.{length, getD}
+use lib.Dec.{ltb, leb, eqb}
+use lib.IntN.{pos}
+use Rattle.wire.specs.Numbers.{halfAt, wordAt, signed8}
+use Rattle.wire.specs.Ranges.{within, unsigned, also}
+use Rattle.wire.specs.declared.Range.{Range}
+use Rattle.wire.specs.declared.Range.the-variants.{Fits, Big, Small}
+use Rattle.record.specs.Limits.{powerRange, stepRange, modeRange, onOffRange, inputRange, intervalRange, filterRange, nameRange}
+use Rattle.command.specs.declared.Command.{Command}
+use Rattle.command.specs.declared.Command.the-variants.{Open, Close, ReadPower, SetPower, ReadStep, SetStep, ReadMode, SetMode, ReadName, SetName, ReadOnOff, SetOnOff, SetInput, ReadInput, SwitchOutput, SetInterval, ReadInterval, Unlock, ReadLock, ReadModel, SetModel, StopSending, StartSending, ReadFilter, SetFilter, ReadPair}
+use Rattle.command.specs.declared.Listed.{Listed}
+use Rattle.command.specs.declared.Listed.the-variants.{Built, NotBuilt, Unlisted}
+use Rattle.command.specs.declared.Counted.{Counted}
+use Rattle.command.specs.declared.Counted.the-variants.{Right, Wrong}
+use Rattle.command.specs.declared.Need.{Need}
+use Rattle.command.specs.declared.Need.the-variants.{Nothing, Opened, Closed, Unlocked, Code}
+
+-- ---- which number is which command
+
+pub record Row : Type 0 where
+  pub number : ℕ
+  pub listed : Listed
+
+abbrev pub row : ℕ → Command → Row
+row n c = record { number = n; listed = Built c }
+
+abbrev pub unbuilt : ℕ → Row
+unbuilt n = record { number = n; listed = NotBuilt }
+
+-- "Known but not built: EA, EC, EF."
+abbrev pub bt121 : List Row
+bt121 =
+    row 0xE0 Open
+    ∷ row 0xE1 Close
+    ∷ row 0xE2 ReadPower
+    ∷ row 0xE3 SetPower
+    ∷ row 0xE4 ReadStep
+    ∷ row 0xE5 SetStep
+    ∷ row 0xE6 ReadMode
+    ∷ row 0xE7 SetMode
+    ∷ row 0xE8 ReadName
+    ∷ row 0xE9 SetName
+    ∷ row 0xED ReadOnOff
+    ∷ row 0xEE SetOnOff
+    ∷ row 0xEB SetInput
+    ∷ row 0xF0 ReadInput
+    ∷ row 0xF1 SwitchOutput
+    ∷ row 0xF2 SetInterval
+    ∷ row 0xF3 ReadInterval
+    ∷ unbuilt 0xEA
+    ∷ unbuilt 0xEC
+    ∷ unbuilt 0xEF
+    ∷ []
+
+-- "Known but not built: 17, 18, 50, 54, 55."
+abbrev pub amplifier : List Row
+amplifier =
+    row 0x19 Unlock
+    ∷ row 0x1A ReadLock
+    ∷ row 0x1B ReadModel
+    ∷ row 0x1C SetModel
+    ∷ row 0x23 StopSending
+    ∷ row 0x24 StartSending
+    ∷ row 0x51 ReadFilter
+    ∷ row 0x52 SetFilter
+    ∷ row 0x53 ReadPair
+    ∷ unbuilt 0x17
+    ∷ unbuilt 0x18
+    ∷ unbuilt 0x50
+    ∷ unbuilt 0x54
+    ∷ unbuilt 0x55
+    ∷ []
+
+abbrev pub lookUp : ℕ → List Row → Listed
+lookUp n [] = Unlisted
+lookUp n (r ∷ rows) = cond (eqb n (r .number)) (r .listed) (lookUp n rows)
+
+-- An heads the BT121 commands, 9n the amplifier's
+unfoldable pub listedOf : ℕ → ℕ → Listed
+listedOf head number = cond (eqb (head / 16) 0xA) (lookUp number bt121) (lookUp number amplifier)
+
+-- ---- how many parameters
+
+pub record Span : Type 0 where
+  pub least : ℕ
+  pub most : ℕ
+
+abbrev pub exactly : ℕ → Span
+exactly n = record { least = n; most = n }
+
+unfoldable pub spanOf : Command → Span
+spanOf Open = exactly 0
+spanOf Close = exactly 0
+spanOf ReadPower = exactly 0
+spanOf SetPower = exactly 2
+spanOf ReadStep = exactly 0
+spanOf SetStep = exactly 1
+spanOf ReadMode = exactly 0
+spanOf SetMode = exactly 1
+spanOf ReadName = exactly 0
+spanOf SetName = record { least = 0; most = 15 }
+spanOf ReadOnOff = exactly 0
+spanOf SetOnOff = exactly 1
+spanOf SetInput = exactly 2
+spanOf ReadInput = exactly 1
+spanOf SwitchOutput = exactly 2
+spanOf SetInterval = exactly 1
+spanOf ReadInterval = exactly 0
+spanOf Unlock = exactly 4
+spanOf ReadLock = exactly 0
+spanOf ReadModel = exactly 0
+spanOf SetModel = record { least = 1; most = 15 }
+spanOf StopSending = exactly 0
+spanOf StartSending = exactly 0
+spanOf ReadFilter = exactly 0
+spanOf SetFilter = exactly 4
+spanOf ReadPair = exactly 1
+
+abbrev pub countedBy : Bool → Counted
+countedBy true = Right
+countedBy false = Wrong
+
+unfoldable pub countedOf : Command → ℕ → Counted
+unfolding spanOf
+countedOf c n = countedBy (leb (spanOf c .least) n && leb n (spanOf c .most))
+
+-- ---- what of the board: E0 nothing, other BT121 commands an open configuration mode, amplifier commands a closed one
+
+unfoldable pub needOf : Command → Need
+needOf Open = Nothing
+needOf Close = Opened
+needOf ReadPower = Opened
+needOf SetPower = Opened
+needOf ReadStep = Opened
+needOf SetStep = Opened
+needOf ReadMode = Opened
+needOf SetMode = Opened
+needOf ReadName = Opened
+needOf SetName = Opened
+needOf ReadOnOff = Opened
+needOf SetOnOff = Opened
+needOf SetInput = Opened
+needOf ReadInput = Opened
+needOf SwitchOutput = Opened
+needOf SetInterval = Opened
+needOf ReadInterval = Opened
+needOf Unlock = Code
+needOf ReadLock = Closed
+needOf ReadModel = Closed
+needOf SetModel = Unlocked
+needOf StopSending = Closed
+needOf StartSending = Closed
+needOf ReadFilter = Closed
+needOf SetFilter = Closed
+needOf ReadPair = Closed
+
+-- ---- in which range
+
+-- "channel 2..6", "output 1..4": signed; "channel 1..6, unsigned"
+abbrev pub inputChannel : ℕ → Range
+inputChannel b = within (pos 2) (pos 6) (signed8 b)
+
+abbrev pub outputNumber : ℕ → Range
+outputNumber b = within (pos 1) (pos 4) (signed8 b)
+
+abbrev pub outputValue : ℕ → Range
+outputValue b = within (pos 0) (pos 1) (signed8 b)
+
+abbrev pub pairChannel : ℕ → Range
+pairChannel b = unsigned 1 6 b
+
+unfoldable pub rangeOf : Command → List ℕ → Range
+unfolding nameRange
+rangeOf Open p = Fits
+rangeOf Close p = Fits
+rangeOf ReadPower p = Fits
+rangeOf SetPower p = powerRange (halfAt p 0)
+rangeOf ReadStep p = Fits
+rangeOf SetStep p = stepRange (getD p 0 0)
+rangeOf ReadMode p = Fits
+rangeOf SetMode p = modeRange (getD p 0 0)
+rangeOf ReadName p = Fits
+rangeOf SetName p = nameRange p
+rangeOf ReadOnOff p = Fits
+rangeOf SetOnOff p = onOffRange (getD p 0 0)
+rangeOf SetInput p = also (inputChannel (getD p 0 0)) (inputRange (getD p 1 0))
+rangeOf ReadInput p = inputChannel (getD p 0 0)
+rangeOf SwitchOutput p = also (outputNumber (getD p 0 0)) (outputValue (getD p 1 0))
+rangeOf SetInterval p = intervalRange (getD p 0 0)
+rangeOf ReadInterval p = Fits
+rangeOf Unlock p = Fits
+rangeOf ReadLock p = Fits
+rangeOf ReadModel p = Fits
+rangeOf SetModel p = Fits
+rangeOf StopSending p = Fits
+rangeOf StartSending p = Fits
+rangeOf ReadFilter p = Fits
+rangeOf SetFilter p = filterRange (wordAt p 0)
+rangeOf ReadPair p = pairChannel (getD p 0 0)

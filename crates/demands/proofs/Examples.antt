@@ -1,0 +1,31 @@
+-- Every starred example comes out.
+use mathlib.Core.Path.{refl}
+use Rattle.record.specs.Layout.{bytesOf, recordOf}
+use Rattle.record.specs.Births.{factory}
+use Rattle.board.specs.Calls.{bytesCall}
+use Rattle.demands.specs.Examples.{starred, Holds}
+
+pub starred-hold : Holds starred
+unfolding bytesCall factory bytesOf recordOf
+starred-hold = (
+  (refl, refl, refl),
+  (
+    (refl, refl, tt),
+    (
+      (refl, refl, refl),
+      (
+        (refl, refl, tt),
+        (
+          (refl, refl, refl),
+          (
+            (refl, refl, tt),
+            (
+              (refl, refl, tt),
+              ((refl, refl, tt), ((refl, refl, tt), ((refl, refl, refl), ((refl, refl, refl), ((refl, refl, refl), ((refl, refl, refl), tt)))))),
+            ),
+          ),
+        ),
+      ),
+    ),
+  ),
+)

@@ -1,0 +1,81 @@
+-- The worked examples that are proved: one table, and one statement over it.
+use Prim.Native.Nat.{ℕ}
+use mathlib.Core.Path.{_≡_}
+use mathlib.Core.Bool.{true, false}
+use mathlib.Core.List.{List, [], _∷_, _++_}
+use lib.ListN.{length, take, replicate}
+use lib.IntN.{ℤ, pos, negsuc}
+use Rattle.wire.specs.Numbers.{signed16}
+use Rattle.record.specs.Layout.{bytesOf, recordOf}
+use Rattle.record.specs.Births.{factory}
+use Rattle.board.specs.Calls.{Outcome, bytesCall}
+
+-- what a row says of the board afterwards
+pub data Fact : Type 0 where
+  Nothing : Fact
+  SendingOff : Fact
+  Power : ℤ → Fact
+  Unlocked : Fact
+  Tries : ℕ → Fact
+  Skipped : ℕ → Fact
+  Pending : ℕ → Fact
+
+pub record Example : Type 0 where
+  pub input : List ℕ
+  pub replies : List ℕ
+  pub fact : Fact
+
+abbrev pub opening : List ℕ
+opening = 0xAA ∷ 0xA0 ∷ 0xE0 ∷ 0x85 ∷ []
+
+abbrev pub opened : List ℕ
+opened = 0xAA ∷ 0x62 ∷ 0x00 ∷ 0x00 ∷ 0x14 ∷ 0x85 ∷ []
+
+-- the factory code, and another
+abbrev pub rightCode : List ℕ
+rightCode = 0xAA ∷ 0x94 ∷ 0x19 ∷ 0x55 ∷ 0x53 ∷ 0x43 ∷ 0x31 ∷ 0x85 ∷ []
+
+abbrev pub wrongCode : List ℕ
+wrongCode = 0xAA ∷ 0x94 ∷ 0x19 ∷ 0x55 ∷ 0x53 ∷ 0x43 ∷ 0x32 ∷ 0x85 ∷ []
+
+abbrev pub denied : List ℕ
+denied = 0xAA ∷ 0x50 ∷ 0x62 ∷ 0x85 ∷ []
+
+abbrev pub row : List ℕ → List ℕ → Fact → Example
+row input replies fact = record { input = input; replies = replies; fact = fact }
+
+-- from a factory record; in an "open" row E0 and its reply come first
+abbrev pub starred : List Example
+starred =
+    row (0xAA ∷ 0x90 ∷ 0x23 ∷ 0x85 ∷ []) (0xAA ∷ 0x50 ∷ 0x00 ∷ 0x85 ∷ []) SendingOff
+    ∷ row (0xAA ∷ 0xA0 ∷ 0xED ∷ 0x85 ∷ []) (0xAA ∷ 0x60 ∷ 0x62 ∷ 0x85 ∷ []) Nothing
+    ∷ row (opening ++ (0xAA ∷ 0xA2 ∷ 0xE3 ∷ 0x00 ∷ 0x0C ∷ 0x85 ∷ [])) (opened ++ (0xAA ∷ 0x60 ∷ 0x00 ∷ 0x85 ∷ [])) (Power (pos 12))
+    ∷ row (opening ++ (0xAA ∷ 0xA2 ∷ 0xE3 ∷ 0x00 ∷ 0x0D ∷ 0x85 ∷ [])) (opened ++ (0xAA ∷ 0x60 ∷ 0x54 ∷ 0x85 ∷ [])) Nothing
+    ∷ row (opening ++ (0xAA ∷ 0xA2 ∷ 0xE3 ∷ 0xFF ∷ 0xEC ∷ 0x85 ∷ [])) (opened ++ (0xAA ∷ 0x60 ∷ 0x00 ∷ 0x85 ∷ [])) (Power (negsuc 19))
+    ∷ row (opening ++ (0xAA ∷ 0xA2 ∷ 0xE3 ∷ 0xFF ∷ 0xEB ∷ 0x85 ∷ [])) (opened ++ (0xAA ∷ 0x60 ∷ 0x55 ∷ 0x85 ∷ [])) Nothing
+    ∷ row (opening ++ (0xAA ∷ 0xA2 ∷ 0xE3 ∷ 0x01 ∷ 0x00 ∷ 0x85 ∷ [])) (opened ++ (0xAA ∷ 0x60 ∷ 0x54 ∷ 0x85 ∷ [])) Nothing
+    ∷ row (opening ++ (0xAA ∷ 0xA1 ∷ 0xE2 ∷ 0x0C ∷ 0x85 ∷ [])) (opened ++ (0xAA ∷ 0x60 ∷ 0x5B ∷ 0x85 ∷ [])) Nothing
+    ∷ row (opening ++ (0xAA ∷ 0xA2 ∷ 0xEB ∷ 0x01 ∷ 0x02 ∷ 0x85 ∷ [])) (opened ++ (0xAA ∷ 0x60 ∷ 0x55 ∷ 0x85 ∷ [])) Nothing
+    ∷ row rightCode (0xAA ∷ 0x50 ∷ 0x00 ∷ 0x85 ∷ []) Unlocked
+    ∷ row (wrongCode ++ (wrongCode ++ (wrongCode ++ rightCode))) (denied ++ (denied ++ (denied ++ denied))) (Tries 3)
+    ∷ row (0xAA ∷ 0xA4 ∷ 0xAA ∷ 0x90 ∷ 0x23 ∷ 0x85 ∷ 0x00 ∷ 0x00 ∷ []) (0xAA ∷ 0x50 ∷ 0x00 ∷ 0x85 ∷ []) (Skipped 4)
+    ∷ row (0xAA ∷ 0xAA ∷ 0x90 ∷ 0x23 ∷ 0x85 ∷ []) [] (Pending 5)
+    ∷ []
+
+-- the bytes call on the factory record, with room for all of these replies
+abbrev pub run : List ℕ → Outcome
+run input = bytesCall (bytesOf factory) input (replicate 190 0)
+
+abbrev pub Says : Fact → Outcome → Type 0
+Says Nothing z = Unit {0}
+Says SendingOff z = recordOf (z .kept) .flags .sending ≡ false
+Says (Power v) z = signed16 (recordOf (z .kept) .settings .power) ≡ v
+Says Unlocked z = recordOf (z .kept) .flags .unlocked ≡ true
+Says (Tries n) z = recordOf (z .kept) .tries ≡ n
+Says (Skipped n) z = z .answer .skipped ≡ n
+Says (Pending n) z = length (recordOf (z .kept) .pending) ≡ n
+
+abbrev pub Holds : List Example → Type 0
+Holds [] = Unit {0}
+Holds (e ∷ es) =
+    ((run (e .input) .answer .result ≡ 0) × (take (run (e .input) .answer .written) (run (e .input) .output) ≡ e .replies) × Says (e .fact) (run (e .input))) × Holds es

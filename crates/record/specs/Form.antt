@@ -1,0 +1,105 @@
+-- Which bytes are a board record: its fields in record order, each with its place and whether it is as it has to be.
+use Prim.Native.Nat.{ℕ, zero, suc, _+_, _<_, _≤_}
+use mathlib.Core.Path.{_≡_}
+use mathlib.Core.Bool.{Bool, true, false, cond, _&&_}
+use mathlib.Core.List.{List, [], _∷_, _++_}
+use lib.ListN.{length, getD, take, drop}
+use lib.Dec.{ltb, leb, eqb}
+use Rattle.wire.specs.Numbers.{halfAt, wordAt, bytesAt}
+use Rattle.wire.specs.Ranges.{fits}
+use Rattle.wire.specs.Frames.{look, waits}
+use Rattle.wire.specs.Serial.{serial}
+use Rattle.wire.specs.declared.Range.the-variants.{Fits}
+use Rattle.peak.specs.Pairs.{Pair, noPair, pairFits, pairAt, key}
+use Rattle.record.specs.Record.{Record}
+use Rattle.record.specs.Limits.{powerRange, stepRange, modeRange, onOffRange, inputRange, intervalRange, filterRange, nameRange, beforeZero}
+use Rattle.record.specs.Layout.{recordSize, version, channels, pendingRoom, atVersion, atFlags, atTries, atPower, atStep, atMode, atOnOff, atInputs, atOutputs, atInterval, atFilter, atName, atModel, atPending, atPairs, bitOf}
+use Rattle.record.specs.declared.Form.{Form}
+use Rattle.record.specs.declared.Form.the-variants.{Good, Bad}
+
+pub record Field : Type 0 where
+  pub place : ℕ
+  pub fine : Bool
+
+abbrev pub field : ℕ → Bool → Field
+field place fine = record { place = place; fine = fine }
+
+unfoldable pub allZero : List ℕ → Bool
+allZero [] = true
+allZero (b ∷ s) = eqb b 0 && allZero s
+
+-- "all zero from its first zero"
+unfoldable pub zerosBehind : List ℕ → Bool
+unfolding allZero
+zerosBehind [] = true
+zerosBehind (zero ∷ s) = allZero s
+zerosBehind (suc b ∷ s) = zerosBehind s
+
+-- a part of which the first n bytes are in use: they pass a test, and zeros stand behind them
+abbrev pub partFits : (List ℕ → Bool) → ℕ → List ℕ → Bool
+partFits test n s = test (take n s) && allZero (drop n s)
+
+-- n fields of the same kind, each so many bytes long
+abbrev pub several : ℕ → ℕ → (ℕ → Bool) → ℕ → List Field
+several zero width fine at = []
+several (suc n) width fine at = field at (fine at) ∷ several n width fine (at + width)
+
+abbrev pub fieldsOf : List ℕ → List Field
+fieldsOf s =
+    field 0 (eqb (halfAt s 0) recordSize)
+    ∷ field atVersion (eqb (getD s atVersion 0) version)
+    ∷ field atFlags (ltb (getD s atFlags 0) 16)
+    ∷ field atTries (leb (getD s atTries 0) 3)
+    ∷ field atPower (fits (powerRange (halfAt s atPower)))
+    ∷ field atStep (fits (stepRange (getD s atStep 0)))
+    ∷ field atMode (fits (modeRange (getD s atMode 0)))
+    ∷ field atOnOff (fits (onOffRange (getD s atOnOff 0)))
+    ∷ several 5 1 (λ at. fits (inputRange (getD s at 0))) atInputs
+    ++ (field atOutputs (ltb (getD s atOutputs 0) 16)
+    ∷ field atInterval (fits (intervalRange (getD s atInterval 0)))
+    ∷ field atFilter (fits (filterRange (wordAt s atFilter)))
+    ∷ field atName (leb (getD s atName 0) 15)
+    ∷ field (atName + 1) (partFits (λ l. fits (nameRange l)) (getD s atName 0) (bytesAt 15 s (atName + 1)))
+    ∷ field atModel (zerosBehind (bytesAt 15 s atModel))
+    ∷ field atPending (leb (getD s atPending 0) pendingRoom)
+    ∷ field (atPending + 1) (partFits (waits serial) (getD s atPending 0) (bytesAt pendingRoom s (atPending + 1)))
+    ∷ several channels 8 (λ at. pairFits (bitOf (getD s atFlags 0) 8) (pairAt s at)) atPairs)
+
+abbrev pub allFine : List Field → Bool
+allFine [] = true
+allFine (f ∷ fs) = f .fine && allFine fs
+
+-- "Every code is well formed." The code is no field of the list.
+unfoldable pub wellFormed : List ℕ → Bool
+unfolding nameRange allZero zerosBehind waits serial look key
+wellFormed s = eqb (length s) recordSize && allFine (fieldsOf s)
+
+-- what the check answers
+abbrev pub formBy : Bool → Form
+formBy true = Good
+formBy false = Bad
+
+abbrev pub formOf : List ℕ → Form
+formOf s = formBy (wellFormed s)
+
+-- the same of a record value: each field in its range
+pub record InRange (r : Record) : Type 0 where
+  pub tries : r .tries ≤ 3
+  pub code : r .code < 0x100000000
+  pub power : powerRange (r .settings .power) ≡ Fits
+  pub power-half : r .settings .power < 0x10000
+  pub step : stepRange (r .settings .step) ≡ Fits
+  pub mode : modeRange (r .settings .mode) ≡ Fits
+  pub on-off : onOffRange (r .settings .onOff) ≡ Fits
+  pub five : length (r .settings .inputs) ≡ 5
+  pub inputs : (i : ℕ) → inputRange (getD (r .settings .inputs) i 0) ≡ Fits
+  pub interval : intervalRange (r .settings .interval) ≡ Fits
+  pub filter : filterRange (r .settings .filter) ≡ Fits
+  pub name-length : length (r .settings .name) ≤ 15
+  pub name : nameRange (r .settings .name) ≡ Fits
+  pub model-length : length (r .model) ≤ 15
+  pub model : beforeZero (r .model) ≡ r .model
+  pub pending : waits serial (r .pending) ≡ true
+  pub six : length (r .pairs) ≡ channels
+  pub words : (i : ℕ) → (getD (r .pairs) i noPair .greatest < 0x100000000) × (getD (r .pairs) i noPair .smallest < 0x100000000)
+  pub pairs : (i : ℕ) → i < channels → pairFits (r .flags .reading) (getD (r .pairs) i noPair) ≡ true

@@ -1,0 +1,5 @@
+pub mod Record
+pub mod Limits
+pub mod Layout
+pub mod Form
+pub mod Births

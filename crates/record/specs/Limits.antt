@@ -1,0 +1,56 @@
+-- The range of each setting, told once: the record's check and the setting commands both go by it.
+use Prim.Native.Nat.{ℕ, zero, suc}
+use mathlib.Core.Bool.{Bool, true, false, cond, _&&_, _||_}
+use mathlib.Core.List.{List, [], _∷_}
+use lib.Dec.{ltb, leb, eqb}
+use lib.IntN.{ℤ, pos, negsuc}
+use lib.Signed.{ltZ}
+use Rattle.wire.specs.Numbers.{signed8, signed16}
+use Rattle.wire.specs.Ranges.{within, also}
+use Rattle.wire.specs.declared.Range.{Range}
+use Rattle.wire.specs.declared.Range.the-variants.{Fits, Big, Small}
+
+-- Classic power: "2 signed, -20..12"
+abbrev pub powerRange : ℕ → Range
+powerRange w = within (negsuc 19) (pos 12) (signed16 w)
+
+-- LE power step: "1, 0..5"; "One-byte parameters are signed."
+abbrev pub stepRange : ℕ → Range
+stepRange b = within (pos 0) (pos 5) (signed8 b)
+
+-- mode: "1, 0..1"
+abbrev pub modeRange : ℕ → Range
+modeRange b = within (pos 0) (pos 1) (signed8 b)
+
+-- on/off state: "1, 0..2"
+abbrev pub onOffRange : ℕ → Range
+onOffRange b = within (pos 0) (pos 2) (signed8 b)
+
+-- input type: "type 0..1"
+abbrev pub inputRange : ℕ → Range
+inputRange b = within (pos 0) (pos 1) (signed8 b)
+
+-- interval: "0 or 4..59"; "-128..-1 and 1..3 are 55"
+abbrev pub intervalOf : ℤ → Range
+intervalOf v = cond (ltZ (pos 59) v) Big (cond (ltZ v (pos 0) || (ltZ (pos 0) v && ltZ v (pos 4))) Small Fits)
+
+abbrev pub intervalRange : ℕ → Range
+intervalRange b = intervalOf (signed8 b)
+
+-- filter word: "any bit above bit 5 is 54"
+abbrev pub filterRange : ℕ → Range
+filterRange w = cond (ltb w 64) Fits Big
+
+-- name: "a byte above 7F is 54"
+abbrev pub nameByte : ℕ → Range
+nameByte b = cond (leb b 0x7F) Fits Big
+
+unfoldable pub nameRange : List ℕ → Range
+nameRange [] = Fits
+nameRange (b ∷ name) = also (nameByte b) (nameRange name)
+
+-- "the bytes before the first 00"
+unfoldable pub beforeZero : List ℕ → List ℕ
+beforeZero [] = []
+beforeZero (zero ∷ s) = []
+beforeZero (suc b ∷ s) = suc b ∷ beforeZero s

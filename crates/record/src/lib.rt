@@ -1,0 +1,5 @@
+// What the check of a byte record says.
+pub enum Form {
+    Good,
+    Bad,
+}

@@ -1,0 +1,88 @@
+-- How a stream of bytes is cut into frames, broken heads, skipped bytes and waiting bytes, for any set of heads.
+use Prim.Native.Nat.{ℕ, zero, suc, _+_}
+use mathlib.Core.List.{List, [], _∷_}
+use mathlib.Core.Bool.{Bool, true, false, not, _||_}
+use lib.ListN.{length, getD, take}
+use lib.Dec.{leb, eqb}
+
+-- what the front of a stream says of a frame's size: none begins here, more bytes are needed to say, 4 + n bytes
+pub data Size : Type 0 where
+  NoHead : Size
+  NeedMore : Size
+  Of : ℕ → Size
+
+-- a set of heads: the size that the front announces, and whether all the bytes of a candidate are a frame
+pub record Heads : Type 0 where
+  pub size : List ℕ → Size
+  pub sound : List ℕ → Bool
+
+-- what the hunt does at the front: pass one byte, wait, carry out a frame with n parameters, pass the AA of a broken one
+pub data Look : Type 0 where
+  Skip : Look
+  Wait : Look
+  Take : ℕ → Look
+  Tear : Look
+
+-- a candidate of 4 + n bytes: are all present, and are they a frame
+abbrev pub settle : Bool → Bool → ℕ → Look
+settle false s n = Wait
+settle true true n = Take n
+settle true false n = Tear
+
+abbrev pub weigh : (List ℕ → Bool) → List ℕ → Size → Look
+weigh sound l NoHead = Skip
+weigh sound l NeedMore = Wait
+weigh sound l (Of n) = settle (leb (4 + n) (length l)) (sound (take (4 + n) l)) n
+
+unfoldable pub look : Heads → List ℕ → Look
+look h l = weigh (h .sound) l (h .size l)
+
+-- what a stream holds for the board: the bytes of a whole frame, or the head byte of a broken one
+pub data Piece : Type 0 where
+  Whole : List ℕ → Piece
+  Broken : ℕ → Piece
+
+pub record Cut : Type 0 where
+  pub pieces : List Piece
+  pub skipped : ℕ
+  pub waiting : List ℕ
+
+abbrev pub stop : List ℕ → Cut
+stop l = record { pieces = []; skipped = 0; waiting = l }
+
+abbrev pub skipOne : Cut → Cut
+skipOne c = record { pieces = c .pieces; skipped = 1 + c .skipped; waiting = c .waiting }
+
+abbrev pub carryOut : List ℕ → Cut → Cut
+carryOut f c = record { pieces = Whole f ∷ c .pieces; skipped = c .skipped; waiting = c .waiting }
+
+abbrev pub tearOne : ℕ → Cut → Cut
+tearOne h c = record { pieces = Broken h ∷ c .pieces; skipped = 1 + c .skipped; waiting = c .waiting }
+
+-- one decision and what follows: `go k` is the hunt on the bytes behind the first, k more of them passed
+abbrev pub onward : Look → List ℕ → (ℕ → Cut) → Cut
+onward Skip l go = skipOne (go 0)
+onward Wait l go = stop l
+onward (Take n) l go = carryOut (take (4 + n) l) (go (3 + n))
+onward Tear l go = tearOne (getD l 1 0) (go 0)
+
+-- the hunt from the left, when the next k bytes belong to a frame that was carried out
+unfoldable pub cutFrom : Heads → ℕ → List ℕ → Cut
+unfolding look
+cutFrom h k [] = stop []
+cutFrom h zero (x ∷ l) = onward (look h (x ∷ l)) (x ∷ l) (λ k. cutFrom h k l)
+cutFrom h (suc k) (x ∷ l) = cutFrom h k l
+
+abbrev pub cut : Heads → List ℕ → Cut
+cut h l = cutFrom h 0 l
+
+-- what the hunt can leave waiting: nothing, or a front that waits
+abbrev pub isWait : Look → Bool
+isWait Skip = false
+isWait Wait = true
+isWait (Take n) = false
+isWait Tear = false
+
+unfoldable pub waits : Heads → List ℕ → Bool
+unfolding look
+waits h l = eqb (length l) 0 || isWait (look h l)

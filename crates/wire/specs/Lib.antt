@@ -1,0 +1,6 @@
+pub mod Numbers
+pub mod Ranges
+pub mod Frames
+pub mod Serial
+pub mod Replies
+pub mod Run

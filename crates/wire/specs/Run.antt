@@ -1,0 +1,28 @@
+-- The pieces of a stream answered one after the other, for any kind of state and answer.
+use Prim.Native.Nat.{ℕ}
+use mathlib.Core.List.{List, [], _∷_, _++_}
+use Rattle.wire.specs.Frames.{Heads, Piece, Cut, cutFrom, cut}
+
+-- a state, and what was said on the way to it
+pub record Run (S A : Type 0) : Type 0 where
+  pub state : S
+  pub said : List A
+
+-- each piece is answered in the state that the one before it left
+unfoldable pub runs : {S A : Type 0} → (S → Piece → Run S A) → S → List Piece → Run S A
+runs answer s [] = record { state = s; said = [] }
+runs answer s (p ∷ ps) = record { state = runs answer (answer s p .state) ps .state; said = answer s p .said ++ runs answer (answer s p .state) ps .said }
+
+-- the whole of a hunt: the run, the bytes skipped, the bytes that wait
+pub record Hunted (S A : Type 0) : Type 0 where
+  pub state : S
+  pub said : List A
+  pub skipped : ℕ
+  pub waiting : List ℕ
+
+abbrev pub runCut : {S A : Type 0} → (S → Piece → Run S A) → S → Cut → Hunted S A
+runCut answer s c = record { state = runs answer s (c .pieces) .state; said = runs answer s (c .pieces) .said; skipped = c .skipped; waiting = c .waiting }
+
+unfoldable pub hunt : {S A : Type 0} → Heads → (S → Piece → Run S A) → S → List ℕ → Hunted S A
+unfolding runs cutFrom
+hunt heads answer s l = runCut answer s (cut heads l)

@@ -1,0 +1,57 @@
+-- Heads that the byte behind the AA makes known, and those of this board: 9n and An.
+use Prim.Native.Nat.{ℕ, _+_, _-_, _/_, _%_}
+use mathlib.Core.List.{List}
+use mathlib.Core.Bool.{Bool, true, false, cond, _&&_}
+use lib.ListN.{length, getD, take, drop}
+use lib.Dec.{ltb, leb, eqb}
+use Rattle.wire.specs.Frames.{Size, NoHead, NeedMore, Of, Heads, Look, Skip, Wait, Take, Tear}
+
+-- what a byte behind the AA announces: no frame, or one of 4 + n bytes
+pub data Head : Type 0 where
+  Bad : Head
+  Fixed : ℕ → Head
+
+-- is the first byte AA, is there a second, what does it announce
+abbrev pub front : Bool → Bool → Head → Size
+front false second h = NoHead
+front true false h = NeedMore
+front true true Bad = NoHead
+front true true (Fixed n) = Of n
+
+abbrev pub fronted : (ℕ → Head) → (List ℕ → Bool) → Heads
+fronted head sound = record { size = λ l. front (eqb (getD l 0 0) 0xAA) (ltb 1 (length l)) (head (getD l 1 0)); sound = sound }
+
+-- "The head is 9n for an amplifier command, An for a BT121 command, n = 0 to 15"
+abbrev pub isHead : ℕ → Bool
+isHead b = leb 0x90 b && leb b 0xAF
+
+-- "Its size is 4 + n, at most 19"
+abbrev pub serialHead : ℕ → Head
+serialHead b = cond (isHead b) (Fixed (b % 16)) Bad
+
+-- the last byte is 85
+abbrev pub closed : List ℕ → Bool
+closed f = eqb (getD f (length f - 1) 0) 0x85
+
+unfoldable pub serial : Heads
+serial = fronted serialHead closed
+
+-- the six lines of the hunt: is the first byte AA, is there a second, is it a head, are 4 + n bytes present, is the last 85
+abbrev pub sixLines : Bool → Bool → Bool → Bool → Bool → ℕ → Look
+sixLines false second headed present ended n = Skip
+sixLines true false headed present ended n = Wait
+sixLines true true false present ended n = Skip
+sixLines true true true false ended n = Wait
+sixLines true true true true true n = Take n
+sixLines true true true true false n = Tear
+
+-- the parts of a whole frame
+abbrev pub headOf : List ℕ → ℕ
+headOf f = getD f 1 0
+
+abbrev pub numberOf : List ℕ → ℕ
+numberOf f = getD f 2 0
+
+-- "the parameters are the n bytes after the command number"
+abbrev pub paramsOf : List ℕ → List ℕ
+paramsOf f = take (length f - 4) (drop 3 f)

@@ -1,0 +1,6 @@
+// What a range says of a value.
+pub enum Range {
+    Fits,
+    Big,
+    Small,
+}
