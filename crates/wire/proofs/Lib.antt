@@ -1,0 +1,5 @@
+pub mod NumberLaws
+pub mod CutLaws
+pub mod SerialLaws
+pub mod RunLaws
+pub mod ReplyLaws

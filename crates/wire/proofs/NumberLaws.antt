@@ -1,0 +1,66 @@
+-- Numbers and their bytes, ranges of signed bytes as tests of the byte, and buffers written into.
+use Prim.Native.Nat.{ℕ, zero, suc, _+_, _-_, _*_, _/_, _%_, _≤_, _<_}
+use mathlib.Core.Path.{_≡_, refl, sym, ap, _∙_}
+use mathlib.Core.Bool.{Bool, true, false, cond}
+use mathlib.Core.List.{List, [], _∷_, _++_}
+use native.Mathlib.Nat.{div-div-eq-div-mul, div-add-mod', mod-eq-of-lt, add-mul, mul-assoc, add-assoc, zero-add}
+use native.Mathlib.Omega.{arith}
+use lib.ListN.{length, getD, take, drop, length-append, length-drop}
+use lib.Seq.{drop-cons, take-all, length-take-le}
+use Rattle.wire.specs.Numbers.{word16, word32, bytes2, bytes4, bytesAt, put}
+
+-- ---- a number from its bytes, and back
+
+pub half-back : (w : ℕ) → w < 0x10000 → word16 (w / 256 % 256) (w % 256) ≡ w
+half-back w h = omega arith
+
+pub half-bytes : (a b : ℕ) → a < 256 → b < 256 → bytes2 (word16 a b) ≡ a ∷ b ∷ []
+half-bytes a b A B =
+    let hi : (a * 256 + b) / 256 % 256 ≡ a = omega arith in
+    let lo : (a * 256 + b) % 256 ≡ b = omega arith in
+    rw (hi, lo) refl
+
+digits : (b n q₁ q₂ q₃ r₀ r₁ r₂ : ℕ) → n ≡ q₁ * b + r₀ → q₁ ≡ q₂ * b + r₁ → q₂ ≡ q₃ * b + r₂ → q₃ * (b * b * b) + r₂ * (b * b) + r₁ * b + r₀ ≡ n
+digits b n q₁ q₂ q₃ r₀ r₁ r₂ e₀ e₁ e₂ = rw (e₀, e₁, e₂) (simp (add-mul, mul-assoc, add-assoc))
+
+pub word-back : (w : ℕ) → w < 0x100000000 → word32 (w / 16777216 % 256) (w / 65536 % 256) (w / 256 % 256) (w % 256) ≡ w
+word-back w h =
+    let p : w / 256 / 256 ≡ w / 65536 = div-div-eq-div-mul w 256 256 in
+    let q : w / 65536 / 256 ≡ w / 16777216 = div-div-eq-div-mul w 65536 256 in
+    let t : w / 16777216 % 256 ≡ w / 16777216 = mod-eq-of-lt (omega arith) in
+    rw t
+    (digits 256 w (w / 256) (w / 65536) (w / 16777216) (w % 256) (w / 256 % 256) (w / 65536 % 256) (sym (div-add-mod' w 256))
+    (sym (div-add-mod' (w / 256) 256) ∙ ap (λ (x : ℕ). x * 256 + w / 256 % 256) p)
+    (sym (div-add-mod' (w / 65536) 256) ∙ ap (λ (x : ℕ). x * 256 + w / 65536 % 256) q))
+
+pub word-bytes : (a b c d : ℕ) → a < 256 → b < 256 → c < 256 → d < 256 → bytes4 (word32 a b c d) ≡ a ∷ b ∷ c ∷ d ∷ []
+word-bytes a b c d A B C D =
+    let w₃ : (a * 16777216 + b * 65536 + c * 256 + d) / 16777216 % 256 ≡ a = omega arith in
+    let w₂ : (a * 16777216 + b * 65536 + c * 256 + d) / 65536 % 256 ≡ b = omega arith in
+    let w₁ : (a * 16777216 + b * 65536 + c * 256 + d) / 256 % 256 ≡ c = omega arith in
+    let w₀ : (a * 16777216 + b * 65536 + c * 256 + d) % 256 ≡ d = omega arith in
+    rw (w₃, w₂, w₁, w₀) refl
+
+-- ---- parts of a list
+
+pub part-is : (n : ℕ) (s : List ℕ) (at : ℕ) → at + n ≤ length s → bytesAt n s at ≡ take n (drop at s)
+part-is zero s at h = refl
+part-is (suc n) s at h =
+    ap (λ (x : List ℕ). getD s at 0 ∷ x) (part-is n s (suc at) (omega arith)) ∙ ap (take (suc n)) (sym (drop-cons s at 0 (omega arith)))
+
+pub part-all : (n : ℕ) (s : List ℕ) → length s ≡ n → bytesAt n s 0 ≡ s
+part-all n s h = part-is n s 0 (omega arith) ∙ take-all n s (omega arith)
+
+pub length-part : (n : ℕ) (s : List ℕ) (at : ℕ) → length (bytesAt n s at) ≡ n
+length-part zero s at = refl
+length-part (suc n) s at = ap suc (length-part n s (suc at))
+
+-- ---- writing into a buffer
+
+pub length-put : (d : List ℕ) (at : ℕ) (s : List ℕ) → at + length s ≤ length d → length (put d at s) ≡ length d
+unfolding put
+length-put d at s h = simp (length-append, length-drop, length-take-le at d (omega arith)) (omega arith)
+
+pub put-zero : (d s : List ℕ) → put d 0 s ≡ s ++ drop (length s) d
+unfolding put
+put-zero d s = rw zero-add refl

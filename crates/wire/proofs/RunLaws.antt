@@ -1,0 +1,78 @@
+-- Laws of a hunt, for any heads and any board: each decision as an equation, packets, and two boards that agree.
+use Prim.Native.Nat.{ℕ, zero, suc, _+_}
+use mathlib.Core.Path.{_≡_, refl, sym, ap, ap₂, _∙_}
+use mathlib.Core.List.{List, [], _∷_, _++_, append-assoc}
+use native.Mathlib.Nat.{zero-add}
+use lib.ListN.{length, getD, take, drop}
+use Rattle.wire.specs.Frames.{Heads, Look, Skip, Wait, Take, Tear, look, Piece, Whole, Broken, Cut, cut}
+use Rattle.wire.specs.Run.{Run, runs, Hunted, runCut, hunt}
+use Rattle.wire.proofs.CutLaws.{Steady, skips, cut-wait, cut-take, cut-tear, packets}
+
+module _ (S A : Type 0) where
+  abbrev pub halt : S → List ℕ → Hunted S A
+  halt s l = record { state = s; said = []; skipped = 0; waiting = l }
+
+  -- what was said and skipped before, put ahead of a hunt
+  abbrev pub ahead : List A → ℕ → Hunted S A → Hunted S A
+  ahead said k r = record { state = r .state; said = said ++ r .said; skipped = k + r .skipped; waiting = r .waiting }
+
+  module _ (heads : Heads) (answer : S → Piece → Run S A) where
+    pub hunt-nil : (s : S) → hunt heads answer s [] ≡ halt s []
+    unfolding hunt runs
+    hunt-nil s = refl
+
+    pub hunt-wait : (s : S) (l : List ℕ) → look heads l ≡ Wait → hunt heads answer s l ≡ halt s l
+    unfolding hunt runs
+    hunt-wait s l e = rw (cut-wait heads l e) refl
+
+    pub hunt-pass : (s : S) (l g : List ℕ) (k : ℕ) → cut heads l ≡ skips k (cut heads g) → hunt heads answer s l ≡ ahead [] k (hunt heads answer s g)
+    unfolding hunt
+    hunt-pass s l g k e = rw e refl
+
+    pub hunt-take : (s : S) (n : ℕ) (l : List ℕ) → look heads l ≡ Take n
+        → let a = answer s (Whole (take (4 + n) l)) in hunt heads answer s l ≡ ahead (a .said) 0 (hunt heads answer (a .state) (drop (4 + n) l))
+    unfolding hunt runs
+    hunt-take s n l e = rw (cut-take heads n l e, zero-add) refl
+
+    pub hunt-tear : (s : S) (l : List ℕ) → look heads l ≡ Tear
+        → let a = answer s (Broken (getD l 1 0)) in hunt heads answer s l ≡ ahead (a .said) 1 (hunt heads answer (a .state) (drop 1 l))
+    unfolding hunt runs
+    hunt-tear s l e = rw (cut-tear heads l e) refl
+
+    -- the pieces of one stream and then those of another
+    pub runs-append : (s : S) (ps qs : List Piece)
+        → runs answer s (ps ++ qs) ≡ record { state = runs answer (runs answer s ps .state) qs .state; said = runs answer s ps .said ++ runs answer (runs answer s ps .state) qs .said }
+    unfolding runs
+    runs-append s [] qs = refl
+    runs-append s (p ∷ ps) qs = rw (runs-append (answer s p .state) ps qs) (simp append-assoc)
+
+    pub hunt-packets : Steady heads → (s : S) (l more : List ℕ)
+        → let a = hunt heads answer s l in hunt heads answer s (l ++ more) ≡ ahead (a .said) (a .skipped) (hunt heads answer (a .state) (a .waiting ++ more))
+    unfolding hunt
+    hunt-packets steady s l more = rw (packets heads steady l more, runs-append) refl
+
+    -- a property of states that every answer keeps
+    module _ (Keeps : S → Type 0) (Fair : Piece → Type 0) (kept : (s : S) (p : Piece) → Fair p → Keeps s → Keeps (answer s p .state)) where
+      unfoldable pub AllFair : List Piece → Type 0
+      AllFair [] = Unit {0}
+      AllFair (p ∷ ps) = Fair p × AllFair ps
+
+      pub runs-keep : (s : S) (ps : List Piece) → AllFair ps → Keeps s → Keeps (runs answer s ps .state)
+      unfolding AllFair runs
+      runs-keep s [] f k = k
+      runs-keep s (p ∷ ps) f k = runs-keep (answer s p .state) ps (f .1) (kept s p (f .0) k)
+
+    -- two states that agree say the same, as long as no piece tells them apart
+    module _ (Agree : S → S → Type 0) (Quiet : S → S → Piece → Type 0)
+        (same : (s t : S) (p : Piece) → Agree s t → Quiet s t p → (answer s p .said ≡ answer t p .said) × Agree (answer s p .state) (answer t p .state)) where
+      unfoldable pub AllQuiet : S → S → List Piece → Type 0
+      AllQuiet s t [] = Unit {0}
+      AllQuiet s t (p ∷ ps) = Quiet s t p × AllQuiet (answer s p .state) (answer t p .state) ps
+
+      pub runs-agree : (s t : S) (ps : List Piece) → Agree s t → AllQuiet s t ps → (runs answer s ps .said ≡ runs answer t ps .said) × Agree (runs answer s ps .state) (runs answer t ps .state)
+      unfolding AllQuiet runs
+      runs-agree s t [] a q = (refl, a)
+      runs-agree s t (p ∷ ps) a q =
+          let x = same s t p a (q .0) in
+          let y = runs-agree (answer s p .state) (answer t p .state) ps (x .1) (q .1) in
+          (ap₂ (_++_) (x .0) (y .0), y .1)

@@ -1,0 +1,96 @@
+-- Heads that the byte behind the AA makes known are steady; the board's are 9n and An, and its look is the six lines.
+use Prim.Native.Nat.{ℕ, zero, suc, _+_, _-_, _%_, _≤_, _<_}
+use mathlib.Core.Path.{_≡_, refl, sym, ap, _∙_}
+use mathlib.Core.List.{List, [], _∷_, _++_}
+use mathlib.Core.Bool.{Bool, true, false, cond}
+use native.Mathlib.Omega.{arith}
+use lib.ListN.{length, getD, take, length-append, List·getD-append}
+use lib.Seq.{getD-take, length-take-le}
+use lib.Dec.{ltb, leb, eqb}
+use borrow.Author.Tests.{ltb-true, ltb-false, lt-ltb, leb-true}
+use Rattle.wire.specs.Frames.{Size, NoHead, NeedMore, Of, Heads, look, cut, waits}
+use Rattle.wire.specs.Serial.{Head, Bad, Fixed, front, fronted, isHead, serialHead, closed, serial, sixLines}
+use Rattle.wire.proofs.CutLaws as cuts
+use Rattle.wire.proofs.CutLaws.{Steady, Under}
+
+longer : (k : ℕ) (l more : List ℕ) → ltb k (length l) ≡ true → ltb k (length (l ++ more)) ≡ true
+longer k l more q = let p : k < length l = ltb-true _ _ q in lt-ltb k (length (l ++ more)) (simp length-append (omega arith))
+
+module _ (head : ℕ → Head) (sound : List ℕ → Bool) where
+  stays-by : (l more : List ℕ) (a b : Bool) (v : Head) → 0 < length l → eqb (getD l 0 0) 0xAA ≡ a → ltb 1 (length l) ≡ b → head (getD l 1 0) ≡ v
+      → (front a b v ≡ NeedMore → ⊥) → fronted head sound .size (l ++ more) ≡ front a b v
+  stays-by l more false b v p ha hb hv w = rw (List·getD-append l more 0 0 p, ha) refl
+  stays-by l more true false v p ha hb hv w = absurd (w refl)
+  stays-by l more true true Bad p ha hb hv w =
+      rw (List·getD-append l more 0 0 p, List·getD-append l more 0 1 (ltb-true _ _ hb), ha, longer 1 l more hb, hv) refl
+  stays-by l more true true (Fixed n) p ha hb hv w =
+      rw (List·getD-append l more 0 0 p, List·getD-append l more 0 1 (ltb-true _ _ hb), ha, longer 1 l more hb, hv) refl
+
+  pub fronted-steady : Steady (fronted head sound)
+  fronted-steady = record { stays = λ l more p w. stays-by l more (eqb (getD l 0 0) 0xAA) (ltb 1 (length l)) (head (getD l 1 0)) p refl refl refl w }
+
+  module _ (bound : ℕ) (short : (b n : ℕ) → head b ≡ Fixed n → 4 + n ≤ bound) (four : 4 ≤ bound) where
+    most-by : (b : ℕ) (a s : Bool) (v : Head) (n : ℕ) → head b ≡ v → front a s v ≡ Of n → 4 + n ≤ bound
+    most-by b false s v n q e = let z : _≡_ {A = ℕ} 0 1 = cc in absurd (omega arith)
+    most-by b true false v n q e = let z : _≡_ {A = ℕ} 0 1 = cc in absurd (omega arith)
+    most-by b true true Bad n q e = let z : _≡_ {A = ℕ} 0 1 = cc in absurd (omega arith)
+    most-by b true true (Fixed m) n q e = let w : m ≡ n = cc in omega (arith, short b m q)
+
+    early-by : (l : List ℕ) (a s : Bool) (v : Head) → ltb 1 (length l) ≡ s → front a s v ≡ NeedMore → length l < bound
+    early-by l false s v q e = let z : _≡_ {A = ℕ} 0 1 = cc in absurd (omega arith)
+    early-by l true false v q e = omega (arith, ltb-false 1 (length l) q)
+    early-by l true true Bad q e = let z : _≡_ {A = ℕ} 0 1 = cc in absurd (omega arith)
+    early-by l true true (Fixed m) q e = let z : _≡_ {A = ℕ} 0 1 = cc in absurd (omega arith)
+
+    pub fronted-under : Under (fronted head sound) bound
+    fronted-under = record {
+      most = λ l n e. most-by (getD l 1 0) (eqb (getD l 0 0) 0xAA) (ltb 1 (length l)) (head (getD l 1 0)) n refl e;
+      early = λ l e. early-by l (eqb (getD l 0 0) 0xAA) (ltb 1 (length l)) (head (getD l 1 0)) refl e;
+      some = omega arith;
+    }
+
+-- ---- 9n and An
+
+short-by : (t : Bool) (b n : ℕ) → cond t (Fixed (b % 16)) Bad ≡ Fixed n → 4 + n ≤ 19
+short-by true b n e = let q : b % 16 ≡ n = cc in omega arith
+short-by false b n e = let z : _≡_ {A = ℕ} 0 1 = cc in absurd (omega arith)
+
+pub serial-steady : Steady serial
+unfolding serial
+serial-steady = fronted-steady serialHead closed
+
+pub serial-under : Under serial 19
+unfolding serial
+serial-under = fronted-under serialHead closed 19 (λ b n e. short-by (isHead b) b n e) (omega arith)
+
+-- at most 18 bytes wait
+pub pending-short : (l : List ℕ) → waits serial l ≡ true → length l ≤ 18
+pending-short l t = let h : length l < 19 = cuts.waits-short serial 19 serial-under l t in omega arith
+
+pub waiting-short : (l : List ℕ) → length (cut serial l .waiting) ≤ 18
+waiting-short l = pending-short (cut serial l .waiting) (cuts.cut-waits serial l)
+
+-- ---- the six lines
+
+closed-is : (n : ℕ) (l : List ℕ) → 4 + n ≤ length l → closed (take (4 + n) l) ≡ eqb (getD l (3 + n) 0) 0x85
+closed-is n l p =
+    let e : 4 + n - 1 ≡ 3 + n = omega arith in
+    rw (length-take-le (4 + n) l p, e, getD-take (4 + n) l (3 + n) 0 (omega arith)) refl
+
+module _ (l : List ℕ) where
+  abbrev announced : ℕ
+  announced = getD l 1 0 % 16
+
+  lines-by : (a b c d e : Bool) → eqb (getD l 0 0) 0xAA ≡ a → ltb 1 (length l) ≡ b → isHead (getD l 1 0) ≡ c → leb (4 + announced) (length l) ≡ d → eqb (getD l (3 + announced) 0) 0x85 ≡ e
+      → look serial l ≡ sixLines a b c d e announced
+  unfolding look serial
+  lines-by false b c d e ha hb hc hd he = rw ha refl
+  lines-by true false c d e ha hb hc hd he = rw (ha, hb) refl
+  lines-by true true false d e ha hb hc hd he = rw (ha, hb, hc) refl
+  lines-by true true true false e ha hb hc hd he = rw (ha, hb, hc, hd) refl
+  lines-by true true true true true ha hb hc hd he = rw (ha, hb, hc, hd, closed-is announced l (leb-true _ _ hd), he) refl
+  lines-by true true true true false ha hb hc hd he = rw (ha, hb, hc, hd, closed-is announced l (leb-true _ _ hd), he) refl
+
+  pub look-lines : look serial l
+      ≡ sixLines (eqb (getD l 0 0) 0xAA) (ltb 1 (length l)) (isHead (getD l 1 0)) (leb (4 + announced) (length l)) (eqb (getD l (3 + announced) 0) 0x85) announced
+  look-lines = lines-by _ _ _ _ _ refl refl refl refl refl
