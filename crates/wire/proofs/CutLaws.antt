@@ -27,6 +27,17 @@ sizes [] = 0
 sizes (Whole f ∷ pieces) = length f + sizes pieces
 sizes (Broken head ∷ pieces) = sizes pieces
 
+-- how many frames
+unfoldable pub frames : List Piece → ℕ
+frames [] = 0
+frames (Whole f ∷ pieces) = 1 + frames pieces
+frames (Broken head ∷ pieces) = frames pieces
+
+-- a property of every piece
+unfoldable pub All : (Piece → Type 0) → List Piece → Type 0
+All P [] = Unit {0}
+All P (p ∷ pieces) = P p × All P pieces
+
 -- a cut followed by another
 abbrev pub andThen : Cut → Cut → Cut
 andThen a b = record { pieces = a .pieces ++ b .pieces; skipped = a .skipped + b .skipped; waiting = b .waiting }
@@ -147,6 +158,30 @@ module _ (h : Heads) where
 
   pub conserved : (l : List ℕ) → cut h l .skipped + sizes (cut h l .pieces) + length (cut h l .waiting) ≡ length l
   conserved l = rw zero-add at (weigh-from l 0 (omega arith))
+
+  -- ---- every piece stands somewhere in the stream
+
+  module _ (P : Piece → Type 0) where
+    -- what the decisions on a stream say of its pieces
+    abbrev Shown : List ℕ → Type 0
+    Shown l = ((k n : ℕ) → look h (drop k l) ≡ Take n → P (Whole (take (4 + n) (drop k l)))) × ((k : ℕ) → look h (drop k l) ≡ Tear → P (Broken (getD (drop k l) 1 0)))
+
+    all-on : (l : List ℕ) (v : Look) (go : ℕ → Cut) → look h l ≡ v → Shown l → ((k : ℕ) → All P (go k .pieces)) → All P (onward v l go .pieces)
+    unfolding All
+    all-on l Skip go e s ih = ih 0
+    all-on l Wait go e s ih = tt
+    all-on l (Take n) go e s ih = (s .0 0 n e, ih (3 + n))
+    all-on l Tear go e s ih = (s .1 0 e, ih 0)
+
+    all-from : (l : List ℕ) (k : ℕ) → Shown l → All P (cutFrom h k l .pieces)
+    unfolding cutFrom All
+    all-from [] k s = tt
+    all-from (x ∷ l) zero s = all-on (x ∷ l) (look h (x ∷ l)) (λ k. cutFrom h k l) refl s (λ k. all-from l k (λ j n e. s .0 (suc j) n e, λ j e. s .1 (suc j) e))
+    all-from (x ∷ l) (suc k) s = all-from l k (λ j n e. s .0 (suc j) n e, λ j e. s .1 (suc j) e)
+
+    pub all-pieces : (l : List ℕ) → ((k n : ℕ) → look h (drop k l) ≡ Take n → P (Whole (take (4 + n) (drop k l)))) → ((k : ℕ) → look h (drop k l) ≡ Tear → P (Broken (getD (drop k l) 1 0)))
+        → All P (cut h l .pieces)
+    all-pieces l f g = all-from l 0 (f, g)
 
   -- ---- what waits: exactly the fronts that the test of pending bytes accepts
 

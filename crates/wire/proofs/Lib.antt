@@ -3,3 +3,4 @@ pub mod CutLaws
 pub mod SerialLaws
 pub mod RunLaws
 pub mod ReplyLaws
+pub mod HuntRows

@@ -6,7 +6,7 @@ use native.Mathlib.Nat.{zero-add}
 use lib.ListN.{length, getD, take, drop}
 use Rattle.wire.specs.Frames.{Heads, Look, Skip, Wait, Take, Tear, look, Piece, Whole, Broken, Cut, cut}
 use Rattle.wire.specs.Run.{Run, runs, Hunted, runCut, hunt}
-use Rattle.wire.proofs.CutLaws.{Steady, skips, cut-wait, cut-take, cut-tear, packets}
+use Rattle.wire.proofs.CutLaws.{Steady, All, skips, cut-wait, cut-take, cut-tear, packets}
 
 module _ (S A : Type 0) where
   abbrev pub halt : S → List ℕ → Hunted S A
@@ -51,14 +51,10 @@ module _ (S A : Type 0) where
     unfolding hunt
     hunt-packets steady s l more = rw (packets heads steady l more, runs-append) refl
 
-    -- a property of states that every answer keeps
+    -- a property of states that the answer to every fair piece keeps
     module _ (Keeps : S → Type 0) (Fair : Piece → Type 0) (kept : (s : S) (p : Piece) → Fair p → Keeps s → Keeps (answer s p .state)) where
-      unfoldable pub AllFair : List Piece → Type 0
-      AllFair [] = Unit {0}
-      AllFair (p ∷ ps) = Fair p × AllFair ps
-
-      pub runs-keep : (s : S) (ps : List Piece) → AllFair ps → Keeps s → Keeps (runs answer s ps .state)
-      unfolding AllFair runs
+      pub runs-keep : (s : S) (ps : List Piece) → All Fair ps → Keeps s → Keeps (runs answer s ps .state)
+      unfolding All runs
       runs-keep s [] f k = k
       runs-keep s (p ∷ ps) f k = runs-keep (answer s p .state) ps (f .1) (kept s p (f .0) k)
 

@@ -4,12 +4,13 @@ use mathlib.Core.Path.{_≡_, refl, sym, ap, _∙_}
 use mathlib.Core.List.{List, [], _∷_, _++_}
 use mathlib.Core.Bool.{Bool, true, false, cond}
 use native.Mathlib.Omega.{arith}
-use lib.ListN.{length, getD, take, length-append, List·getD-append}
-use lib.Seq.{getD-take, length-take-le}
+use lib.ListN.{length, getD, take, drop, length-append, length-take, List·getD-append, List·getD-eq-default}
+use lib.Seq.{getD-take, getD-drop, length-take-le}
 use lib.Dec.{ltb, leb, eqb}
 use borrow.Author.Tests.{ltb-true, ltb-false, lt-ltb, leb-true}
-use Rattle.wire.specs.Frames.{Size, NoHead, NeedMore, Of, Heads, look, cut, waits}
-use Rattle.wire.specs.Serial.{Head, Bad, Fixed, front, fronted, isHead, serialHead, closed, serial, sixLines}
+use Rattle.wire.specs.Frames.{Size, NoHead, NeedMore, Of, Heads, Take, look, Piece, Whole, Broken, cut, waits}
+use Rattle.wire.specs.Numbers.{Bytes}
+use Rattle.wire.specs.Serial.{Head, Bad, Fixed, front, fronted, isHead, serialHead, closed, serial, sixLines, headOf}
 use Rattle.wire.proofs.CutLaws as cuts
 use Rattle.wire.proofs.CutLaws.{Steady, Under}
 
@@ -69,6 +70,42 @@ pending-short l t = let h : length l < 19 = cuts.waits-short serial 19 serial-un
 
 pub waiting-short : (l : List ℕ) → length (cut serial l .waiting) ≤ 18
 waiting-short l = pending-short (cut serial l .waiting) (cuts.cut-waits serial l)
+
+-- ---- a frame that is carried out: 4 to 19 bytes, a good head, bytes where the stream has bytes
+
+abbrev pub Fair : Piece → Type 0
+Fair (Whole f) = (4 ≤ length f) × (length f ≤ 19) × (isHead (headOf f) ≡ true) × Bytes f
+Fair (Broken head) = Unit {0}
+
+headed-by : (a b t : Bool) (n m : ℕ) → front a b (cond t (Fixed n) Bad) ≡ Of m → t ≡ true
+headed-by false b t n m e = let z : _≡_ {A = ℕ} 0 1 = cc in absurd (omega arith)
+headed-by true false t n m e = let z : _≡_ {A = ℕ} 0 1 = cc in absurd (omega arith)
+headed-by true true true n m e = refl
+headed-by true true false n m e = let z : _≡_ {A = ℕ} 0 1 = cc in absurd (omega arith)
+
+bytes-drop : (k : ℕ) (l : List ℕ) → Bytes l → Bytes (drop k l)
+bytes-drop k l b i = rw (getD-drop k l i 0) (b (k + i))
+
+bytes-take : (k : ℕ) (l : List ℕ) → Bytes l → Bytes (take k l)
+bytes-take k l b i = go (ltb i k) refl
+  where
+    go : (t : Bool) → ltb i k ≡ t → getD (take k l) i 0 < 256
+    go true e = rw (getD-take k l i 0 (ltb-true i k e)) (b i)
+    go false e =
+        let past : length (take k l) ≤ i = simp length-take (omega (arith, ltb-false i k e)) in
+        rw (List·getD-eq-default (take k l) 0 past) (omega arith)
+
+fair-whole : (l : List ℕ) → Bytes l → (k n : ℕ) → look serial (drop k l) ≡ Take n → Fair (Whole (take (4 + n) (drop k l)))
+unfolding serial
+fair-whole l b k n e =
+    let r = cuts.take-room serial (drop k l) n e in
+    let m : length (take (4 + n) (drop k l)) ≡ 4 + n = length-take-le (4 + n) (drop k l) (r .0) in
+    let q : 4 + n ≤ 19 = serial-under .most (drop k l) n (r .1) in
+    let t = headed-by (eqb (getD (drop k l) 0 0) 0xAA) (ltb 1 (length (drop k l))) (isHead (getD (drop k l) 1 0)) (getD (drop k l) 1 0 % 16) n (r .1) in
+    (omega arith, omega arith, rw (getD-take (4 + n) (drop k l) 1 0 (omega arith)) t, bytes-take (4 + n) (drop k l) (bytes-drop k l b))
+
+pub pieces-fair : (l : List ℕ) → Bytes l → cuts.All Fair (cut serial l .pieces)
+pieces-fair l b = cuts.all-pieces serial Fair l (fair-whole l b) (λ k e. tt)
 
 -- ---- the six lines
 

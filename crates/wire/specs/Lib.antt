@@ -4,3 +4,4 @@ pub mod Frames
 pub mod Serial
 pub mod Replies
 pub mod Run
+pub mod HuntRows
