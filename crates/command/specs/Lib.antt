@@ -2,3 +2,4 @@ pub mod Tables
 pub mod Effects
 pub mod Judge
 pub mod Step
+pub mod Compare

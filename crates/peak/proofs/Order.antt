@@ -1,7 +1,7 @@
 -- The order of finite floats is that of the keys of their patterns, and a finite pattern is not lost on the way through a float.
 use mathlib.Core.Path.{_≡_, refl, sym, ap, _∙_, subst}
 use mathlib.Core.Logic.{_⊎_, inl, inr}
-use mathlib.Core.Bool.{Bool, true, false, not, cond}
+use mathlib.Core.Bool.{Bool, true, false, not, cond, _&&_}
 use Prim.Native.Nat.{ℕ, zero, suc, _+_, _-_, _*_, _/_, _%_, _^_, _≤_, _<_}
 use native.Mathlib.Nat.{le-trans, le-of-eq, lt-of-le-of-lt, lt-of-lt-of-le, eq-or-lt-of-le, mul-comm, mul-assoc, mul-left-comm, mul-right-comm, mul-one, mul-le-mul-right, mul-le-mul-left, mul-lt-mul-of-pos-right, lt-of-mul-lt-mul-right, mul-pos, pow-succ', not-le-of-lt, mod-eq-of-lt, le-of-lt, zero-mul, add-mul, eq-zero-or-pos, le-of-mul-le-mul-right}
 use native.Mathlib.Omega.{arith}
@@ -13,7 +13,7 @@ use lib.Ieee.Compare.{differs-from-itself}
 use lib.Ieee.Fits.{up-pos, down-pos}
 use lib.Ieee.Bits.{nanBits-is, nanBits-above, cond-no, toBits-ofBits, ofBits-toBits}
 use lib.Ieee.Exact.{HasValue, odd-sign}
-use Rattle.peak.specs.Pairs.{finite, key, less, Pair, seen}
+use Rattle.peak.specs.Pairs.{finite, key, less, Pair, seen, pairFits}
 use Rattle.peak.specs.Floats.{bitsOf, floatOf, peakOf, seenFloat}
 
 split : (a b : ℕ) → (a < b) ⊎ (b ≤ a)
@@ -285,3 +285,19 @@ unfolding isNan ne
 nan-not nan h = h
 nan-not (inf s) h = refl
 nan-not (fin s m e) h = refl
+
+not-less : (a b : ℕ) → not (ltb a b) ≡ leb b a
+not-less a b = go (ltb a b) refl
+  where
+    go : (t : Bool) → ltb a b ≡ t → not t ≡ leb b a
+    go true e = sym (lt-leb b a (ltb-true a b e))
+    go false e = sym (le-leb b a (ltb-false a b e))
+
+-- the check of a pair on floats
+pub pair-test : (g s : ℕ) → g < 0x100000000 → s < 0x100000000 → ((finite g && finite s) && not (lt (floatOf g) (floatOf s))) ≡ pairFits true (record { greatest = g; smallest = s })
+pair-test g s G S = go (finite g) (finite s) refl refl
+  where
+    go : (a b : Bool) → finite g ≡ a → finite s ≡ b → ((a && b) && not (lt (floatOf g) (floatOf s))) ≡ ((a && b) && leb (key s) (key g))
+    go true true p q = rw (floats-less g s G S p q) (not-less (key g) (key s))
+    go true false p q = refl
+    go false b p q = refl

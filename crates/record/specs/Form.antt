@@ -44,32 +44,73 @@ abbrev pub several : ℕ → ℕ → (ℕ → Bool) → ℕ → List Field
 several zero width fine at = []
 several (suc n) width fine at = field at (fine at) ∷ several n width fine (at + width)
 
-abbrev pub fieldsOf : List ℕ → List Field
-fieldsOf s =
+-- "length 00 7B; version 01; flags (..others 0); tries 0..3"
+abbrev pub headFields : List ℕ → List Field
+headFields s =
     field 0 (eqb (halfAt s 0) recordSize)
     ∷ field atVersion (eqb (getD s atVersion 0) version)
     ∷ field atFlags (ltb (getD s atFlags 0) 16)
     ∷ field atTries (leb (getD s atTries 0) 3)
-    ∷ field atPower (fits (powerRange (halfAt s atPower)))
+    ∷ []
+
+-- "Every code is well formed.": it is no field of this list. "Classic power 2; LE step; mode; on/off"
+abbrev pub radioFields : List ℕ → List Field
+radioFields s =
+    field atPower (fits (powerRange (halfAt s atPower)))
     ∷ field atStep (fits (stepRange (getD s atStep 0)))
     ∷ field atMode (fits (modeRange (getD s atMode 0)))
     ∷ field atOnOff (fits (onOffRange (getD s atOnOff 0)))
-    ∷ several 5 1 (λ at. fits (inputRange (getD s at 0))) atInputs
-    ++ (field atOutputs (ltb (getD s atOutputs 0) 16)
+    ∷ []
+
+-- "input types 5 (channels 2 to 6)"
+abbrev pub inputFields : List ℕ → List Field
+inputFields s = several 5 1 (λ at. fits (inputRange (getD s at 0))) atInputs
+
+-- "outputs (output k in bit k - 1, bits 4 to 7 zero); interval; filter word 4"
+abbrev pub switchFields : List ℕ → List Field
+switchFields s =
+    field atOutputs (ltb (getD s atOutputs 0) 16)
     ∷ field atInterval (fits (intervalRange (getD s atInterval 0)))
     ∷ field atFilter (fits (filterRange (wordAt s atFilter)))
-    ∷ field atName (leb (getD s atName 0) 15)
+    ∷ []
+
+-- "name length and 15 bytes, each at most 7F, zero behind the name"
+abbrev pub nameFields : List ℕ → List Field
+nameFields s =
+    field atName (leb (getD s atName 0) 15)
     ∷ field (atName + 1) (partFits (λ l. fits (nameRange l)) (getD s atName 0) (bytesAt 15 s (atName + 1)))
-    ∷ field atModel (zerosBehind (bytesAt 15 s atModel))
-    ∷ field atPending (leb (getD s atPending 0) pendingRoom)
+    ∷ []
+
+-- "model 15, all zero from its first zero"
+abbrev pub modelFields : List ℕ → List Field
+modelFields s = field atModel (zerosBehind (bytesAt 15 s atModel)) ∷ []
+
+-- "pending bytes are such as the hunt can leave waiting with zeros behind"
+abbrev pub pendingFields : List ℕ → List Field
+pendingFields s =
+    field atPending (leb (getD s atPending 0) pendingRoom)
     ∷ field (atPending + 1) (partFits (waits serial) (getD s atPending 0) (bytesAt pendingRoom s (atPending + 1)))
-    ∷ several channels 8 (λ at. pairFits (bitOf (getD s atFlags 0) 8) (pairAt s at)) atPairs)
+    ∷ []
+
+-- "six pairs greatest, smallest, from channel 1 on"
+abbrev pub pairFields : List ℕ → List Field
+pairFields s = several channels 8 (λ at. pairFits (bitOf (getD s atFlags 0) 8) (pairAt s at)) atPairs
+
+abbrev pub groupsOf : List ℕ → List (List Field)
+groupsOf s = headFields s ∷ radioFields s ∷ inputFields s ∷ switchFields s ∷ nameFields s ∷ modelFields s ∷ pendingFields s ∷ pairFields s ∷ []
+
+abbrev pub join : List (List Field) → List Field
+join [] = []
+join (g ∷ gs) = g ++ join gs
+
+abbrev pub fieldsOf : List ℕ → List Field
+fieldsOf s = join (groupsOf s)
 
 abbrev pub allFine : List Field → Bool
 allFine [] = true
 allFine (f ∷ fs) = f .fine && allFine fs
 
--- "Every code is well formed." The code is no field of the list.
+-- "It is well formed when each field is in its range"
 unfoldable pub wellFormed : List ℕ → Bool
 unfolding nameRange allZero zerosBehind waits serial look key
 wellFormed s = eqb (length s) recordSize && allFine (fieldsOf s)

@@ -3,3 +3,4 @@ pub mod Limits
 pub mod Layout
 pub mod Form
 pub mod Births
+pub mod Place

@@ -2,5 +2,6 @@ pub mod NumberLaws
 pub mod CutLaws
 pub mod SerialLaws
 pub mod RunLaws
+pub mod PutLaws
 pub mod ReplyLaws
 pub mod HuntRows

@@ -1,13 +1,12 @@
--- Numbers and their bytes, ranges of signed bytes as tests of the byte, and buffers written into.
+-- Numbers and their bytes, and parts of a list.
 use Prim.Native.Nat.{ℕ, zero, suc, _+_, _-_, _*_, _/_, _%_, _≤_, _<_}
 use mathlib.Core.Path.{_≡_, refl, sym, ap, _∙_}
-use mathlib.Core.Bool.{Bool, true, false, cond}
-use mathlib.Core.List.{List, [], _∷_, _++_}
-use native.Mathlib.Nat.{div-div-eq-div-mul, div-add-mod', mod-eq-of-lt, add-mul, mul-assoc, add-assoc, zero-add}
+use mathlib.Core.List.{List, [], _∷_}
+use native.Mathlib.Nat.{div-div-eq-div-mul, div-add-mod', mod-eq-of-lt, add-mul, mul-assoc, add-assoc}
 use native.Mathlib.Omega.{arith}
-use lib.ListN.{length, getD, take, drop, length-append, length-drop}
-use lib.Seq.{drop-cons, take-all, length-take-le}
-use Rattle.wire.specs.Numbers.{word16, word32, bytes2, bytes4, bytesAt, put}
+use lib.ListN.{length, getD, take, drop}
+use lib.Seq.{drop-cons, take-all}
+use Rattle.wire.specs.Numbers.{word16, word32, bytes2, bytes4, bytesAt}
 
 -- ---- a number from its bytes, and back
 
@@ -54,13 +53,3 @@ part-all n s h = part-is n s 0 (omega arith) ∙ take-all n s (omega arith)
 pub length-part : (n : ℕ) (s : List ℕ) (at : ℕ) → length (bytesAt n s at) ≡ n
 length-part zero s at = refl
 length-part (suc n) s at = ap suc (length-part n s (suc at))
-
--- ---- writing into a buffer
-
-pub length-put : (d : List ℕ) (at : ℕ) (s : List ℕ) → at + length s ≤ length d → length (put d at s) ≡ length d
-unfolding put
-length-put d at s h = simp (length-append, length-drop, length-take-le at d (omega arith)) (omega arith)
-
-pub put-zero : (d s : List ℕ) → put d 0 s ≡ s ++ drop (length s) d
-unfolding put
-put-zero d s = rw zero-add refl

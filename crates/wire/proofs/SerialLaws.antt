@@ -2,13 +2,13 @@
 use Prim.Native.Nat.{ℕ, zero, suc, _+_, _-_, _%_, _≤_, _<_}
 use mathlib.Core.Path.{_≡_, refl, sym, ap, _∙_}
 use mathlib.Core.List.{List, [], _∷_, _++_}
-use mathlib.Core.Bool.{Bool, true, false, cond}
+use mathlib.Core.Bool.{Bool, true, false, cond, not, _&&_, _||_}
 use native.Mathlib.Omega.{arith}
 use lib.ListN.{length, getD, take, drop, length-append, length-take, List·getD-append, List·getD-eq-default}
 use lib.Seq.{getD-take, getD-drop, length-take-le}
 use lib.Dec.{ltb, leb, eqb}
-use borrow.Author.Tests.{ltb-true, ltb-false, lt-ltb, leb-true}
-use Rattle.wire.specs.Frames.{Size, NoHead, NeedMore, Of, Heads, Take, look, Piece, Whole, Broken, cut, waits}
+use borrow.Author.Tests.{ltb-true, ltb-false, lt-ltb, le-ltb, leb-true, leb-false, eq-eqb, ne-eqb}
+use Rattle.wire.specs.Frames.{Size, NoHead, NeedMore, Of, Heads, Take, look, Piece, Whole, Broken, cut, isWait, waits}
 use Rattle.wire.specs.Numbers.{Bytes}
 use Rattle.wire.specs.Serial.{Head, Bad, Fixed, front, fronted, isHead, serialHead, closed, serial, sixLines, headOf}
 use Rattle.wire.proofs.CutLaws as cuts
@@ -131,3 +131,42 @@ module _ (l : List ℕ) where
   pub look-lines : look serial l
       ≡ sixLines (eqb (getD l 0 0) 0xAA) (ltb 1 (length l)) (isHead (getD l 1 0)) (leb (4 + announced) (length l)) (eqb (getD l (3 + announced) 0) 0x85) announced
   look-lines = lines-by _ _ _ _ _ refl refl refl refl refl
+
+-- ---- what waits, as the record's check tests it
+
+isWait-by : (a b c d e : Bool) (n : ℕ) → isWait (sixLines a b c d e n) ≡ (a && (not b || (c && not d)))
+isWait-by false b c d e n = refl
+isWait-by true false c d e n = refl
+isWait-by true true false d e n = refl
+isWait-by true true true false e n = refl
+isWait-by true true true true true n = refl
+isWait-by true true true true false n = refl
+
+not-leb : (a b : ℕ) → not (leb a b) ≡ ltb b a
+not-leb a b = go (leb a b) refl
+  where
+    go : (t : Bool) → leb a b ≡ t → not t ≡ ltb b a
+    go true e = sym (le-ltb b a (leb-true a b e))
+    go false e = sym (lt-ltb b a (leb-false a b e))
+
+module _ (l : List ℕ) where
+  pub waits-none : length l ≡ 0 → waits serial l ≡ true
+  unfolding waits
+  waits-none e = rw (eq-eqb (length l) 0 e) refl
+
+  module _ (some : 0 < length l) where
+    waits-some : waits serial l ≡ (eqb (getD l 0 0) 0xAA && (not (ltb 1 (length l)) || (isHead (getD l 1 0) && ltb (length l) (4 + getD l 1 0 % 16))))
+    unfolding waits
+    waits-some =
+        rw (ne-eqb (length l) 0 (λ e. let z : ⊥ = omega arith in z), look-lines l, isWait-by (eqb (getD l 0 0) 0xAA) (ltb 1 (length l)) (isHead (getD l 1 0)) (leb (4 + getD l 1 0 % 16) (length l)) (eqb (getD l (3 + getD l 1 0 % 16) 0) 0x85) (getD l 1 0 % 16), not-leb (4 + getD l 1 0 % 16) (length l))
+        refl
+
+    pub waits-not : (getD l 0 0 ≡ 0xAA → ⊥) → waits serial l ≡ false
+    waits-not e = waits-some ∙ rw (ne-eqb (getD l 0 0) 0xAA e) refl
+
+    module _ (aa : getD l 0 0 ≡ 0xAA) where
+      pub waits-one : length l ≡ 1 → waits serial l ≡ true
+      waits-one e = waits-some ∙ rw (eq-eqb (getD l 0 0) 0xAA aa, e) refl
+
+      pub waits-head : 1 < length l → waits serial l ≡ (isHead (getD l 1 0) && ltb (length l) (4 + getD l 1 0 % 16))
+      waits-head h = waits-some ∙ rw (eq-eqb (getD l 0 0) 0xAA aa, lt-ltb 1 (length l) h) refl

@@ -1,0 +1,5 @@
+pub mod Refused
+pub mod Blind
+pub mod Secrecy
+pub mod Compare
+pub mod Keep

@@ -1,0 +1,12 @@
+pub mod Choices
+pub mod Parts
+pub mod Facts
+pub mod RoundTrip
+pub mod Births
+pub mod Bounds
+pub mod Lens
+pub mod Tests
+pub mod Groups
+pub mod Scan
+pub mod Pending
+pub mod Fine

@@ -1,0 +1,53 @@
+-- The pending bytes, as the check reads them at their places.
+use Prim.Native.Nat.{ℕ, zero, suc, _+_, _-_, _%_, _≤_, _<_}
+use mathlib.Core.Path.{_≡_, refl, sym, ap, _∙_}
+use mathlib.Core.Bool.{Bool, true, false, _&&_}
+use mathlib.Core.List.{List}
+use native.Mathlib.Omega.{arith}
+use lib.ListN.{length, getD, take, drop, length-drop}
+use lib.Seq.{getD-take, getD-drop, length-take-le}
+use lib.Dec.{ltb, leb}
+use Rattle.wire.specs.Frames.{waits}
+use Rattle.wire.specs.Serial.{serial}
+use Rattle.wire.proofs.SerialLaws.{waits-none, waits-not, waits-one, waits-head}
+
+module _ (s : List ℕ) (n : ℕ) (whole : length s ≡ 123) (few : n ≤ 18) where
+  abbrev pending : List ℕ
+  pending = take n (drop 57 s)
+
+  long : length pending ≡ n
+  long = length-take-le n (drop 57 s) (rw (length-drop 57 s) (omega arith))
+
+  at-place : (i : ℕ) → i < n → getD pending i 0 ≡ getD s (57 + i) 0
+  at-place i h = getD-take n (drop 57 s) i 0 h ∙ getD-drop 57 s i 0
+
+  pub none : n ≡ 0 → true ≡ waits serial (take n (drop 57 s))
+  none e = sym (waits-none pending (long ∙ e))
+
+  module _ (some : n ≡ 0 → ⊥) where
+    more : 0 < length pending
+    more = rw long (pos n some)
+      where
+        pos : (m : ℕ) → (m ≡ 0 → ⊥) → 0 < m
+        pos zero h = absurd (h refl)
+        pos (suc m) h = omega arith
+
+    pub not-aa : (getD s 57 0 ≡ 0xAA → ⊥) → false ≡ waits serial (take n (drop 57 s))
+    not-aa e = sym (waits-not pending more (λ q. e (sym (at-place 0 (omega (arith, more, long))) ∙ q)))
+
+    module _ (aa : getD s 57 0 ≡ 0xAA) where
+      first : getD pending 0 0 ≡ 0xAA
+      first = at-place 0 (omega (arith, more, long)) ∙ aa
+
+      pub one : n ≡ 1 → true ≡ waits serial (take n (drop 57 s))
+      one e = sym (waits-one pending more first (long ∙ e))
+
+      pub head : (n ≡ 1 → ⊥) → ((leb 0x90 (getD s 58 0) && leb (getD s 58 0) 0xAF) && ltb n (4 + getD s 58 0 % 16)) ≡ waits serial (take n (drop 57 s))
+      head e =
+          let two : 1 < length pending = rw long (above n some e) in
+          sym (waits-head pending more first two ∙ rw (at-place 1 (omega (arith, two, long)), long) refl)
+        where
+          above : (m : ℕ) → (m ≡ 0 → ⊥) → (m ≡ 1 → ⊥) → 1 < m
+          above zero h k = absurd (h refl)
+          above (suc zero) h k = absurd (k refl)
+          above (suc (suc m)) h k = omega arith

@@ -1,0 +1,32 @@
+use Rattle.record.proofs.Groups.{head-is}
+use borrow.Author.Needs.{needs}
+use Rattle.record.proofs.check.head_fine.Statement.{statement}
+use Rattle.record.proofs.check.head_fine.Tie as tie
+use Rattle.record.proofs.check.head_fine.Reads as reads
+use Rattle.record.proofs.check.head_fine.Lts as lts
+use Rattle.wire.proofs.numbers.half_at.Reads as half-at-reads
+
+half-at-requires : tie.Need-half-at-requires
+half-at-requires c κs = search needs
+
+shared-slice-read-result : tie.Need-shared-slice-read-result
+shared-slice-read-result c = search needs
+
+shared-slice-read-result-2 : tie.Need-shared-slice-read-result-2
+shared-slice-read-result-2 c = search needs
+
+shared-slice-read-result-3 : tie.Need-shared-slice-read-result-3
+shared-slice-read-result-3 c = search needs
+
+returns : tie.Need-returns
+returns c = head-is (c .before .before .before .before .before .args .s .now) _ (c .before .before .before .half-at .ensures)
+
+pub head-fine-spec : {M : Type 1} → statement M
+head-fine-spec =
+    tie.close
+    (tie.spec
+    half-at-requires
+    shared-slice-read-result
+    shared-slice-read-result-2
+    shared-slice-read-result-3
+    returns)

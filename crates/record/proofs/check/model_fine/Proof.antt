@@ -1,0 +1,21 @@
+use Rattle.record.proofs.Fine.{model-is}
+use mathlib.Core.Path.{sym, _∙_}
+use borrow.Author.Needs.{needs}
+use Rattle.record.proofs.check.model_fine.Statement.{statement}
+use Rattle.record.proofs.check.model_fine.Tie as tie
+use Rattle.record.proofs.check.model_fine.Reads as reads
+use Rattle.record.proofs.check.model_fine.Lts as lts
+use Rattle.record.proofs.check.first_zero.Reads as first-zero-reads
+use Rattle.record.proofs.check.zeros.Reads as zeros-reads
+
+first-zero-requires : tie.Need-first-zero-requires
+first-zero-requires c κs = search needs
+
+zeros-requires : tie.Need-zeros-requires
+zeros-requires c κs = search needs
+
+returns : tie.Need-returns
+returns c = let z = c .before .before .before in c .zeros .ensures ∙ model-is (z .args .s .now) (z .pre) _ (c .before .first-zero .ensures .0)
+
+pub model-fine-spec : {M : Type 1} → statement M
+model-fine-spec = tie.close (tie.spec first-zero-requires zeros-requires returns)

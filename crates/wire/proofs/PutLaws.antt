@@ -1,0 +1,62 @@
+-- Writing into a buffer: nothing, one byte more, a part behind a part.
+use Prim.Native.Nat.{ℕ, zero, suc, _+_, _-_, _≤_, _<_}
+use mathlib.Core.Path.{_≡_, refl, sym, ap, _∙_}
+use mathlib.Core.List.{List, [], _∷_, _++_, append-assoc}
+use native.Mathlib.Nat.{zero-add, add-zero, add-assoc}
+use native.Mathlib.Numerals.{add-one}
+use native.Mathlib.Omega.{arith}
+use lib.ListN.{length, getD, take, drop, set, replicate, length-append, length-drop, length-replicate, take-append-drop}
+use lib.Seq.{drop-cons, take-suc, take-at, drop-append-add, drop-drop, set-at, length-take-le}
+use Rattle.wire.specs.Numbers.{put}
+
+pub put-nil : (d : List ℕ) (at : ℕ) → put d at [] ≡ d
+unfolding put
+put-nil d at = rw add-zero (take-append-drop at d)
+
+pub put-zero : (d s : List ℕ) → put d 0 s ≡ s ++ drop (length s) d
+unfolding put
+put-zero d s = rw zero-add refl
+
+module _ (d : List ℕ) (at : ℕ) (s : List ℕ) where
+  front-length : at + length s ≤ length d → length (take at d ++ s) ≡ at + length s
+  front-length h = simp (length-append, length-take-le at d (omega arith))
+
+  pub length-put : at + length s ≤ length d → length (put d at s) ≡ length d
+  unfolding put
+  length-put h = simp (length-append, length-take-le at d (omega arith), length-drop) (omega arith)
+
+  pub put-byte : (b : ℕ) → at + length s < length d → set (put d at s) (at + length s) b ≡ put d at (s ++ b ∷ [])
+  unfolding put
+  put-byte b h =
+      let n : length (take at d ++ s) ≡ at + length s = front-length (omega arith) in
+      let m : at + length (s ++ b ∷ []) ≡ suc (at + length s) = simp length-append (omega arith) in
+      let e : take at d ++ (s ++ drop (at + length s) d) ≡ (take at d ++ s) ++ getD d (at + length s) 0 ∷ drop (suc (at + length s)) d =
+      sym (append-assoc (take at d) s (drop (at + length s) d)) ∙ rw (drop-cons d (at + length s) 0 h) refl in
+      rw (e, set-at (take at d ++ s) (getD d (at + length s) 0) (drop (suc (at + length s)) d) b (at + length s) n, m) (simp append-assoc)
+
+  pub put-put : (t : List ℕ) → at + length s ≤ length d → put (put d at s) (at + length s) t ≡ put d at (s ++ t)
+  unfolding put
+  put-put t h =
+      let r : List ℕ = drop (at + length s) d in
+      let n : length (take at d ++ s) ≡ at + length s = front-length h in
+      let e : take at d ++ (s ++ r) ≡ (take at d ++ s) ++ r = sym (append-assoc (take at d) s r) in
+      let f : drop (at + length s + length t) ((take at d ++ s) ++ r) ≡ drop (at + length s + length t) d =
+      ap (λ (j : ℕ). drop (j + length t) ((take at d ++ s) ++ r)) (sym n) ∙ drop-append-add (take at d ++ s) r (length t) ∙ drop-drop (length t) (at + length s) d in
+      rw (e, take-at (take at d ++ s) r (at + length s) n, f, length-append s t, ← add-assoc at (length s) (length t)) (simp append-assoc)
+
+-- one byte more of a copy
+pub put-more : (d : List ℕ) (at : ℕ) (s : List ℕ) (j : ℕ) → at + length s ≤ length d → j < length s → set (put d at (take j s)) (at + j) (getD s j 0) ≡ put d at (take (j + 1) s)
+put-more d at s j h k =
+    let n : length (take j s) ≡ j = length-take-le j s (omega arith) in
+    rw (add-one j, take-suc s j 0 k) (ap (λ (i : ℕ). set (put d at (take j s)) (at + i) (getD s j 0)) (sym n) ∙ put-byte d at (take j s) (getD s j 0) (omega arith))
+
+zeros-more : (i : ℕ) → _≡_ {A = List ℕ} (replicate i 0 ++ 0 ∷ []) (replicate (suc i) 0)
+zeros-more zero = refl
+zeros-more (suc i) = ap (λ (l : List ℕ). 0 ∷ l) (zeros-more i)
+
+-- one zero more
+pub put-zeros : (d : List ℕ) (at i : ℕ) → at + i < length d → set (put d at (replicate i 0)) (at + i) 0 ≡ put d at (replicate (i + 1) 0)
+put-zeros d at i h =
+    let z : List ℕ = replicate i 0 in
+    let n : length z ≡ i = length-replicate i 0 in
+    rw (add-one i, ← zeros-more i) (ap (λ (j : ℕ). set (put d at (replicate i 0)) (at + j) 0) (sym n) ∙ put-byte d at (replicate i 0) 0 (omega arith))
