@@ -10,8 +10,10 @@ use Rattle.wire.specs.Replies.{Reply, written}
 use Rattle.wire.specs.Run.{Hunted}
 use Rattle.peak.specs.Pairs.{seenAll, allFinite}
 use Rattle.record.specs.Record.{Record, withFlags, withPairs, withReading}
-use Rattle.record.specs.Layout.{recordSize, bytesOf, recordOf}
-use Rattle.record.specs.Form.{wellFormed}
+use Rattle.record.specs.Layout.{recordSize, channels, bytesOf, recordOf}
+use Rattle.record.specs.Form.{wellFormed, formOf}
+use Rattle.record.specs.declared.Form.{Form}
+use Rattle.record.specs.declared.Form.the-variants.{Good, Bad}
 use Rattle.record.specs.Births.{factory, poweredOn}
 use Rattle.board.specs.Hunt.{huntOf, recordAfter}
 use Rattle.board.specs.declared.Ending.{Ending}
@@ -40,6 +42,11 @@ refused why s o = record { answer = record { result = resultOf why; written = 0;
 abbrev pub done : Record → List ℕ → ℕ → List ℕ → Outcome
 done r out skipped o = record { answer = record { result = resultOf Done; written = length out; skipped = skipped }; kept = bytesOf r; output = put o 0 out }
 
+-- "1: record not 123 bytes or not well formed"
+abbrev pub byForm : Form → List ℕ → List ℕ → Outcome → Outcome
+byForm Good s o next = next
+byForm Bad s o next = refused BadRecord s o
+
 -- ---- factory and power-on
 
 -- "(factory: only the length)"
@@ -49,7 +56,7 @@ factoryCall s = cond (eqb (length s) recordSize) (done factory [] 0 []) (refused
 
 unfoldable pub powerOnCall : List ℕ → Outcome
 unfolding poweredOn bytesOf recordOf put wellFormed
-powerOnCall s = cond (wellFormed s) (done (poweredOn (recordOf s)) [] 0 []) (refused BadRecord s [])
+powerOnCall s = byForm (formOf s) s [] (done (poweredOn (recordOf s)) [] 0 [])
 
 -- ---- bytes
 
@@ -66,7 +73,7 @@ served h o = done (recordAfter h) (written (h .said)) (h .skipped) o
 unfoldable pub bytesCall : List ℕ → List ℕ → List ℕ → Outcome
 unfolding huntOf recordAfter written bytesOf recordOf put wellFormed
 bytesCall s input o =
-    cond (not (wellFormed s)) (refused BadRecord s o)
+    byForm (formOf s) s o
     (cond (ltb inputMost (length input)) (refused BadLength s o)
     (cond (ltb (length o) (roomFor (length (recordOf s .pending) + length input))) (refused NoRoom s o)
     (served (huntOf (recordOf s) input) o)))
@@ -74,14 +81,14 @@ bytesCall s input o =
 -- ---- samples
 
 abbrev pub sampleSize : ℕ
-sampleSize = 24
+sampleSize = 4 * channels
 
 abbrev pub frameSize : ℕ
-frameSize = 28
+frameSize = 4 + sampleSize
 
--- "If sending is on, the output gets AA 15 B0, the 24 bytes, 85 (28 bytes); else nothing."
-abbrev pub measured : List ℕ → List ℕ
-measured sample = 0xAA ∷ 0x15 ∷ 0xB0 ∷ bytesAt sampleSize sample 0 ++ (0x85 ∷ [])
+-- a measuring frame of n channels. "If sending is on, the output gets AA 15 B0, the 24 bytes, 85 (28 bytes); else nothing."
+abbrev pub measured : ℕ → List ℕ → List ℕ
+measured n sample = 0xAA ∷ (0x0F + n) ∷ 0xB0 ∷ bytesAt (4 * n) sample 0 ++ (0x85 ∷ [])
 
 unfoldable pub readingOf : Record → List ℕ → Record
 unfolding withFlags withPairs seenAll
@@ -90,11 +97,11 @@ readingOf r sample = withPairs (withFlags r (withReading (r .flags) true)) (seen
 unfoldable pub samplesCall : List ℕ → List ℕ → List ℕ → Outcome
 unfolding readingOf allFinite bytesOf recordOf put wellFormed
 samplesCall s sample o =
-    cond (not (wellFormed s)) (refused BadRecord s o)
+    byForm (formOf s) s o
     (cond (not (eqb (length sample) sampleSize)) (refused BadLength s o)
     (cond (ltb (length o) frameSize) (refused NoRoom s o)
-    (cond (not (allFinite 6 sample 0)) (refused NotFinite s o)
-    (done (readingOf (recordOf s) sample) (cond (recordOf s .flags .sending) (measured sample) []) 0 o))))
+    (cond (not (allFinite channels sample 0)) (refused NotFinite s o)
+    (done (readingOf (recordOf s) sample) (cond (recordOf s .flags .sending) (measured channels sample) []) 0 o))))
 
 -- ---- what a call's contract says: it left exactly its outcome
 

@@ -1,5 +1,5 @@
 -- Every command leaves a record in range and the pending bytes alone, and its reply fits a frame.
-use Prim.Native.Nat.{ℕ, zero, suc, _+_, _-_, _≤_, _<_, suc-le-suc, zero-le}
+use Prim.Native.Nat.{ℕ, zero, suc, _+_, _-_, _≤_, _<_, zero-le}
 use mathlib.Core.Path.{_≡_, refl, ap, _∙_}
 use mathlib.Core.Bool.{Bool, true, false, cond, _&&_}
 use mathlib.Core.List.{List, [], _∷_, _++_}
@@ -7,7 +7,8 @@ use native.Mathlib.Nat.{le-trans}
 use native.Mathlib.Omega.{arith}
 use borrow.Author.Tests.{leb-true, leb-false, ltb-true}
 use lib.ListN.{length, getD, take, drop, set, length-set, length-append}
-use lib.Seq.{getD-drop}
+use Rattle.wire.proofs.NumberLaws.{bytes-take, bytes-drop}
+use Rattle.record.proofs.Parts.{cut-le, cut-cut, cut-bytes}
 use lib.Dec.{ltb, leb}
 use Rattle.wire.specs.Numbers.{Bytes, halfAt}
 use Rattle.wire.specs.Ranges.{also}
@@ -50,18 +51,6 @@ counted-most c n h = leb-true n (spanOf c .most) (second (leb (spanOf c .least) 
     second true false e = cc
     second false y e = cc
 
-before-le : (s : List ℕ) → length (beforeZero s) ≤ length s
-unfolding beforeZero
-before-le [] = zero-le
-before-le (zero ∷ s) = zero-le
-before-le (suc n ∷ s) = suc-le-suc (before-le s)
-
-before-before : (s : List ℕ) → beforeZero (beforeZero s) ≡ beforeZero s
-unfolding beforeZero
-before-before [] = refl
-before-before (zero ∷ s) = refl
-before-before (suc n ∷ s) = ap (λ (x : List ℕ). suc n ∷ x) (before-before s)
-
 -- what holds at every place still does after a store
 set-all : (P : ℕ → Type 0) (l : List ℕ) (k v : ℕ) → P v → ((i : ℕ) → P (getD l i 0)) → (i : ℕ) → P (getD (set l k v) i 0)
 set-all P [] k v h e i = e i
@@ -100,8 +89,9 @@ effect-in Unlock r p n g b i = search
 effect-in ReadLock r p n g b i = i
 effect-in ReadModel r p n g b i = i
 effect-in SetModel r p n g b i =
-    let short : length (beforeZero p) ≤ 15 = le-trans (before-le p) (counted-most SetModel (length p) n) in
-    let whole = before-before p in
+    let short : length (beforeZero p) ≤ 15 = le-trans (cut-le p) (counted-most SetModel (length p) n) in
+    let whole = cut-cut p in
+    let bytes = cut-bytes p b in
     search
 effect-in StopSending r p n g b i = search
 effect-in StartSending r p n g b i = search
@@ -144,14 +134,8 @@ left-in TooSmall r head number p h i = i
 
 -- ---- one frame
 
-take-bytes : (n : ℕ) (s : List ℕ) → Bytes s → Bytes (take n s)
-take-bytes zero s b i = omega arith
-take-bytes (suc n) [] b i = b i
-take-bytes (suc n) (x ∷ s) b zero = b zero
-take-bytes (suc n) (x ∷ s) b (suc i) = take-bytes n s (λ j. b (suc j)) i
-
 params-bytes : (f : List ℕ) → Bytes f → Bytes (paramsOf f)
-params-bytes f b = take-bytes (length f - 4) (drop 3 f) (λ i. rw (getD-drop 3 f i 0) (b (3 + i)))
+params-bytes f b = bytes-take (length f - 4) (drop 3 f) (bytes-drop 3 f b)
 
 pub step-in : (r : Record) (f : List ℕ) → Bytes f → InRange r → InRange (stepOf r f .after)
 step-in r f b i = rw (step-is r f) (go (verdict r f) (checks r (headOf f) (numberOf f) (paramsOf f)))

@@ -11,7 +11,7 @@ use lib.Seq.{sets, set-append-left, take-append-seam, drop-append-seam, drop-con
 use lib.Dec.{eqb}
 use borrow.Author.Tests.{eqb-true}
 use Rattle.wire.specs.Numbers.{Bytes, halfAt, wordAt, bytes2, bytes4, bytesAt}
-use Rattle.wire.proofs.NumberLaws.{half-bytes, word-back, word-bytes}
+use Rattle.wire.proofs.NumberLaws.{half-bytes, word-back, word-bytes, bytes-take}
 use Rattle.peak.specs.Pairs.{Pair, noPair, pairAt, pairsAt, pairBytes, pairsBytes}
 use Rattle.record.specs.Limits.{beforeZero}
 use Rattle.record.specs.Form.{allZero, zerosBehind}
@@ -87,6 +87,9 @@ unfolding beforeZero
 cut-take [] = refl
 cut-take (zero ∷ l) = refl
 cut-take (suc b ∷ l) = ap (λ (t : List ℕ). suc b ∷ t) (cut-take l)
+
+pub cut-bytes : (l : List ℕ) → Bytes l → Bytes (beforeZero l)
+cut-bytes l b = rw (← cut-take l) (bytes-take (length (beforeZero l)) l b)
 
 pub cut-cut : (l : List ℕ) → beforeZero (beforeZero l) ≡ beforeZero l
 unfolding beforeZero

@@ -10,7 +10,7 @@ use lib.Dec.{ltb}
 use borrow.Author.Tests.{ltb-true}
 use Rattle.wire.specs.Numbers.{Bytes, halfAt, wordAt, bytes2, bytes4, bytesAt}
 use Rattle.wire.specs.declared.Range.the-variants.{Fits, Big}
-use Rattle.wire.proofs.NumberLaws.{part-all}
+use Rattle.wire.proofs.NumberLaws.{part-all, bytes-part, bytes-take}
 use Rattle.wire.proofs.SerialLaws.{pending-short}
 use Rattle.peak.specs.Pairs.{noPair, pairFits, pairAt, pairBytes}
 use Rattle.record.specs.Record.{Record}
@@ -18,7 +18,7 @@ use Rattle.record.specs.Limits.{inputRange, filterRange}
 use Rattle.record.specs.Layout.{recordSize, version, channels, pendingRoom, atFlags, atTries, atCode, atPower, atStep, atMode, atOnOff, atInputs, atOutputs, atInterval, atFilter, atName, atModel, atPending, atPairs, bytesOf, recordOf}
 use Rattle.record.specs.Form.{wellFormed, InRange}
 use Rattle.record.proofs.Choices.{nibble-below, nibble-back, bits-back}
-use Rattle.record.proofs.Parts.{word-lt, words-lt, half-at, word-at, part-back, rest-zero, pad-take, cut-cut, cut-le, cut-back, cut-behind, pad-cut}
+use Rattle.record.proofs.Parts.{word-lt, words-lt, half-at, word-at, part-back, rest-zero, pad-take, cut-cut, cut-bytes, cut-le, cut-back, cut-behind, pad-cut}
 use Rattle.record.proofs.Lens.{get-code, get-power, get-filter, get-pairs}
 use Rattle.record.proofs.Facts.{Facts, facts, formed}
 
@@ -110,7 +110,9 @@ in-range s b e =
       name = f .name;
       model-length = cut-le (bytesAt 15 s atModel);
       model = cut-cut (bytesAt 15 s atModel);
+      model-bytes = cut-bytes (bytesAt 15 s atModel) (bytes-part 15 s atModel b);
       pending = f .pending;
+      pending-bytes = bytes-take (getD s atPending 0) (bytesAt pendingRoom s (atPending + 1)) (bytes-part pendingRoom s (atPending + 1) b);
       six = refl;
       words = words-lt s b channels atPairs;
       pairs = f .pairs;

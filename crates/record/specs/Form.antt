@@ -5,7 +5,7 @@ use mathlib.Core.Bool.{Bool, true, false, cond, _&&_}
 use mathlib.Core.List.{List, [], _∷_, _++_}
 use lib.ListN.{length, getD, take, drop}
 use lib.Dec.{ltb, leb, eqb}
-use Rattle.wire.specs.Numbers.{halfAt, wordAt, bytesAt}
+use Rattle.wire.specs.Numbers.{Bytes, halfAt, wordAt, bytesAt}
 use Rattle.wire.specs.Ranges.{fits}
 use Rattle.wire.specs.Frames.{look, waits}
 use Rattle.wire.specs.Serial.{serial}
@@ -140,7 +140,9 @@ pub record InRange (r : Record) : Type 0 where
   pub name : nameRange (r .settings .name) ≡ Fits
   pub model-length : length (r .model) ≤ 15
   pub model : beforeZero (r .model) ≡ r .model
+  pub model-bytes : Bytes (r .model)
   pub pending : waits serial (r .pending) ≡ true
+  pub pending-bytes : Bytes (r .pending)
   pub six : length (r .pairs) ≡ channels
   pub words : (i : ℕ) → (getD (r .pairs) i noPair .greatest < 0x100000000) × (getD (r .pairs) i noPair .smallest < 0x100000000)
   pub pairs : (i : ℕ) → i < channels → pairFits (r .flags .reading) (getD (r .pairs) i noPair) ≡ true

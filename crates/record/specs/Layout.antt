@@ -72,7 +72,7 @@ abbrev pub atPending : ℕ
 atPending = 56
 
 abbrev pub atPairs : ℕ
-atPairs = 75
+atPairs = atPending + 1 + pendingRoom
 
 -- ---- four bits in a byte
 

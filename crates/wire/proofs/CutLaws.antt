@@ -9,6 +9,7 @@ use lib.ListN.{length, getD, take, drop, length-append, length-drop, List·getD-
 use lib.Seq.{take-append-le, length-take-le}
 use lib.Dec.{leb, eqb}
 use borrow.Author.Tests.{leb-false, leb-true, le-leb, lt-leb, eqb-true}
+use Rattle.wire.specs.Numbers.{Bytes}
 use Rattle.wire.specs.Frames.{Size, NoHead, NeedMore, Of, Heads, Look, Skip, Wait, Take, Tear, settle, weigh, look, Piece, Whole, Broken, Cut, stop, skipOne, carryOut, tearOne, onward, cutFrom, cut, isWait, waits}
 
 -- a size once said does not change when more bytes follow
@@ -215,6 +216,21 @@ module _ (h : Heads) where
   pub waits-cut : (l : List ℕ) → waits h l ≡ true → cut h l ≡ stop l
   unfolding waits
   waits-cut l t = waits-split l (eqb (length l) 0) (look h l) refl refl t
+
+  bytes-on : (l : List ℕ) (v : Look) (go : ℕ → Cut) → Bytes l → ((k : ℕ) → Bytes (go k .waiting)) → Bytes (onward v l go .waiting)
+  bytes-on l Skip go b ih = ih 0
+  bytes-on l Wait go b ih = b
+  bytes-on l (Take n) go b ih = ih (3 + n)
+  bytes-on l Tear go b ih = ih 0
+
+  bytes-from : (l : List ℕ) (k : ℕ) → Bytes l → Bytes (cutFrom h k l .waiting)
+  unfolding cutFrom
+  bytes-from [] k b = b
+  bytes-from (x ∷ l) zero b = bytes-on (x ∷ l) (look h (x ∷ l)) (λ k. cutFrom h k l) b (λ k. bytes-from l k (λ i. b (suc i)))
+  bytes-from (x ∷ l) (suc k) b = bytes-from l k (λ i. b (suc i))
+
+  pub cut-bytes : (l : List ℕ) → Bytes l → Bytes (cut h l .waiting)
+  cut-bytes l b = bytes-from l 0 b
 
   -- ---- what waits is shorter than every frame may be
 

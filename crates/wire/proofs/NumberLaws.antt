@@ -1,12 +1,12 @@
 -- Numbers and their bytes, and parts of a list.
 use Prim.Native.Nat.{ℕ, zero, suc, _+_, _-_, _*_, _/_, _%_, _≤_, _<_}
 use mathlib.Core.Path.{_≡_, refl, sym, ap, _∙_}
-use mathlib.Core.List.{List, [], _∷_}
+use mathlib.Core.List.{List, [], _∷_, _++_}
 use native.Mathlib.Nat.{div-div-eq-div-mul, div-add-mod', mod-eq-of-lt, add-mul, mul-assoc, add-assoc}
 use native.Mathlib.Omega.{arith}
 use lib.ListN.{length, getD, take, drop}
-use lib.Seq.{drop-cons, take-all}
-use Rattle.wire.specs.Numbers.{word16, word32, bytes2, bytes4, bytesAt}
+use lib.Seq.{drop-cons, take-all, getD-drop}
+use Rattle.wire.specs.Numbers.{Bytes, word16, word32, bytes2, bytes4, bytesAt}
 
 -- ---- a number from its bytes, and back
 
@@ -53,3 +53,24 @@ part-all n s h = part-is n s 0 (omega arith) ∙ take-all n s (omega arith)
 pub length-part : (n : ℕ) (s : List ℕ) (at : ℕ) → length (bytesAt n s at) ≡ n
 length-part zero s at = refl
 length-part (suc n) s at = ap suc (length-part n s (suc at))
+
+-- ---- bytes stay bytes
+
+pub bytes-drop : (k : ℕ) (l : List ℕ) → Bytes l → Bytes (drop k l)
+bytes-drop k l b i = rw (getD-drop k l i 0) (b (k + i))
+
+pub bytes-take : (k : ℕ) (l : List ℕ) → Bytes l → Bytes (take k l)
+bytes-take zero l b i = omega arith
+bytes-take (suc k) [] b i = b i
+bytes-take (suc k) (x ∷ l) b zero = b zero
+bytes-take (suc k) (x ∷ l) b (suc i) = bytes-take k l (λ j. b (suc j)) i
+
+pub bytes-part : (n : ℕ) (s : List ℕ) (at : ℕ) → Bytes s → Bytes (bytesAt n s at)
+bytes-part zero s at b i = omega arith
+bytes-part (suc n) s at b zero = b at
+bytes-part (suc n) s at b (suc i) = bytes-part n s (suc at) b i
+
+pub bytes-append : (l more : List ℕ) → Bytes l → Bytes more → Bytes (l ++ more)
+bytes-append [] more a b i = b i
+bytes-append (x ∷ l) more a b zero = a zero
+bytes-append (x ∷ l) more a b (suc i) = bytes-append l more (λ j. a (suc j)) b i

@@ -14,6 +14,14 @@ length-reply a = simp length-append (omega arith)
 pub reply-bounds : (a : Reply) → length (a .body) ≤ 15 → (4 ≤ length (replyBytes a)) × (length (replyBytes a) ≤ 19)
 reply-bounds a h = rw (length-reply a) (omega arith, omega arith)
 
+pub length-none : length (written []) ≡ 0
+unfolding written
+length-none = refl
+
+pub length-cons : (a : Reply) (said : List Reply) → length (written (a ∷ said)) ≡ length (replyBytes a) + length (written said)
+unfolding written
+length-cons a said = length-append (replyBytes a) (written said)
+
 pub written-append : (said more : List Reply) → written (said ++ more) ≡ written said ++ written more
 unfolding written
 written-append [] more = refl

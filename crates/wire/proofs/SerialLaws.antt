@@ -4,13 +4,14 @@ use mathlib.Core.Path.{_≡_, refl, sym, ap, _∙_}
 use mathlib.Core.List.{List, [], _∷_, _++_}
 use mathlib.Core.Bool.{Bool, true, false, cond, not, _&&_, _||_}
 use native.Mathlib.Omega.{arith}
-use lib.ListN.{length, getD, take, drop, length-append, length-take, List·getD-append, List·getD-eq-default}
-use lib.Seq.{getD-take, getD-drop, length-take-le}
+use lib.ListN.{length, getD, take, drop, length-append, List·getD-append}
+use lib.Seq.{getD-take, length-take-le}
 use lib.Dec.{ltb, leb, eqb}
 use borrow.Author.Tests.{ltb-true, ltb-false, lt-ltb, le-ltb, leb-true, leb-false, eq-eqb, ne-eqb}
 use Rattle.wire.specs.Frames.{Size, NoHead, NeedMore, Of, Heads, Take, look, Piece, Whole, Broken, cut, isWait, waits}
 use Rattle.wire.specs.Numbers.{Bytes}
 use Rattle.wire.specs.Serial.{Head, Bad, Fixed, front, fronted, isHead, serialHead, closed, serial, sixLines, headOf}
+use Rattle.wire.proofs.NumberLaws.{bytes-take, bytes-drop}
 use Rattle.wire.proofs.CutLaws as cuts
 use Rattle.wire.proofs.CutLaws.{Steady, Under}
 
@@ -82,18 +83,6 @@ headed-by false b t n m e = let z : _≡_ {A = ℕ} 0 1 = cc in absurd (omega ar
 headed-by true false t n m e = let z : _≡_ {A = ℕ} 0 1 = cc in absurd (omega arith)
 headed-by true true true n m e = refl
 headed-by true true false n m e = let z : _≡_ {A = ℕ} 0 1 = cc in absurd (omega arith)
-
-bytes-drop : (k : ℕ) (l : List ℕ) → Bytes l → Bytes (drop k l)
-bytes-drop k l b i = rw (getD-drop k l i 0) (b (k + i))
-
-bytes-take : (k : ℕ) (l : List ℕ) → Bytes l → Bytes (take k l)
-bytes-take k l b i = go (ltb i k) refl
-  where
-    go : (t : Bool) → ltb i k ≡ t → getD (take k l) i 0 < 256
-    go true e = rw (getD-take k l i 0 (ltb-true i k e)) (b i)
-    go false e =
-        let past : length (take k l) ≤ i = simp length-take (omega (arith, ltb-false i k e)) in
-        rw (List·getD-eq-default (take k l) 0 past) (omega arith)
 
 fair-whole : (l : List ℕ) → Bytes l → (k n : ℕ) → look serial (drop k l) ≡ Take n → Fair (Whole (take (4 + n) (drop k l)))
 unfolding serial

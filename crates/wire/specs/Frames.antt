@@ -16,7 +16,7 @@ pub record Heads : Type 0 where
   pub size : List ℕ → Size
   pub sound : List ℕ → Bool
 
--- what the hunt does at the front: pass one byte, wait, carry out a frame with n parameters, pass the AA of a broken one
+-- what the hunt does at the front: pass one byte, wait, carry out a frame of 4 + n bytes, pass the AA of a broken one
 pub data Look : Type 0 where
   Skip : Look
   Wait : Look

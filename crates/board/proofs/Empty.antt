@@ -1,0 +1,49 @@
+-- An empty input that passes the checks is done: zero counts, and record and output as they were.
+use Prim.Native.Nat.{ℕ, _+_, _≤_}
+use mathlib.Core.Path.{_≡_, refl, sym, ap, _∙_}
+use mathlib.Core.Bool.{true, false}
+use mathlib.Core.List.{List, [], _++_, append-nil}
+use native.Mathlib.Nat.{add-zero}
+use native.Mathlib.Omega.{arith}
+use lib.ListN.{length}
+use lib.Dec.{ltb}
+use borrow.Author.Tests.{le-ltb}
+use Rattle.wire.specs.Numbers.{Bytes, put}
+use Rattle.wire.specs.Frames.{cut, stop}
+use Rattle.wire.specs.Serial.{serial}
+use Rattle.wire.specs.Replies.{Reply, written}
+use Rattle.wire.specs.Run.{Hunted, runs, runCut, hunt}
+use Rattle.wire.proofs.CutLaws.{waits-cut}
+use Rattle.wire.proofs.PutLaws.{put-nil}
+use Rattle.record.specs.Record.{Record, withPending}
+use Rattle.record.specs.Layout.{bytesOf, recordOf}
+use Rattle.record.specs.Form.{InRange, wellFormed}
+use Rattle.record.proofs.RoundTrip.{in-range, write-back}
+use Rattle.command.specs.Step.{answer}
+use Rattle.board.specs.Hunt.{huntOf, recordAfter}
+use Rattle.board.specs.declared.Ending.the-variants.{Done}
+use Rattle.board.specs.Calls.{Outcome, refused, served, roomFor, bytesCall}
+use Rattle.board.proofs.Unfolded.{bytes-by}
+use Rattle.board.proofs.Exit.{form-good}
+
+-- nothing new: what waited waits
+idle : (r : Record) → InRange r → huntOf r [] ≡ record { state = r; said = []; skipped = 0; waiting = r .pending }
+unfolding huntOf hunt runs
+idle r i = rw (append-nil (r .pending)) (ap (runCut answer r) (waits-cut serial (r .pending) (i .pending)))
+
+kept-is : (r : Record) → recordAfter (record { state = r; said = []; skipped = 0; waiting = r .pending }) ≡ r
+unfolding recordAfter withPending
+kept-is r = refl
+
+nothing-written : written [] ≡ []
+unfolding written
+nothing-written = refl
+
+pub empty-input : (s o : List ℕ) → Bytes s → wellFormed s ≡ true → roomFor (length (recordOf s .pending) + 0) ≤ length o → bytesCall s [] o ≡ refused Done s o
+empty-input s o b w room =
+    bytes-by s [] o
+    ∙ rw (form-good s w, le-ltb (length o) (roomFor (length (recordOf s .pending) + 0)) room, idle (recordOf s) (in-range s b w), kept-is (recordOf s), nothing-written, write-back s b w, put-nil o 0) refl
+
+-- "(76 bytes of room with 18 pending)"
+pub idle-room : roomFor (18 + 0) ≡ 76
+idle-room = refl

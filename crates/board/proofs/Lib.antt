@@ -1,0 +1,5 @@
+pub mod Unfolded
+pub mod Kept
+pub mod Room
+pub mod Exit
+pub mod Empty

@@ -1,0 +1,51 @@
+-- The room that result 3 asks for is enough for all replies of a call.
+use Prim.Native.Nat.{ℕ, zero, suc, _+_, _*_, _/_, _≤_}
+use mathlib.Core.Path.{_≡_, refl, sym, ap, _∙_}
+use mathlib.Core.List.{List, [], _∷_, _++_, append-nil}
+use native.Mathlib.Omega.{arith}
+use lib.ListN.{length, length-append}
+use Rattle.wire.specs.Numbers.{Bytes}
+use Rattle.wire.specs.Frames.{Piece, Whole, Broken, cut}
+use Rattle.wire.specs.Serial.{serial}
+use Rattle.wire.specs.Replies.{Reply, replyBytes, written}
+use Rattle.wire.specs.Run.{runs, hunt}
+use Rattle.wire.proofs.NumberLaws.{bytes-append}
+use Rattle.wire.proofs.CutLaws.{All, sizes, frames, conserved}
+use Rattle.wire.proofs.SerialLaws.{Fair, pieces-fair}
+use Rattle.wire.proofs.ReplyLaws.{reply-bounds, length-none, length-cons}
+use Rattle.record.specs.Record.{Record}
+use Rattle.record.specs.Form.{InRange}
+use Rattle.command.specs.Step.{stepOf, answer}
+use Rattle.command.proofs.Keep.{step-in, reply-short}
+use Rattle.board.specs.Hunt.{huntOf}
+use Rattle.board.specs.Calls.{roomFor}
+
+-- each frame has at least four bytes
+four : (ps : List Piece) → All Fair ps → 4 * frames ps ≤ sizes ps
+unfolding All frames sizes
+four [] f = omega arith
+four (Whole f ∷ ps) h = omega (arith, four ps (h .1), h .0 .0)
+four (Broken head ∷ ps) h = four ps (h .1)
+
+-- and at most nineteen of reply
+nineteen : (r : Record) (ps : List Piece) → All Fair ps → InRange r → length (written (runs answer r ps .said)) ≤ 19 * frames ps
+unfolding All frames runs
+nineteen r [] f i = omega (arith, length-none)
+nineteen r (Whole f ∷ ps) h i =
+    let b = reply-bounds (stepOf r f .reply) (reply-short r f i) in
+    let more = nineteen (stepOf r f .after) ps (h .1) (step-in r f (h .0 .3) i) in
+    rw (length-cons (stepOf r f .reply) (runs answer (stepOf r f .after) ps .said)) (omega (arith, b .1, more))
+nineteen r (Broken head ∷ ps) h i = nineteen r ps (h .1) i
+
+pub room-enough : (r : Record) (input : List ℕ) → Bytes input → InRange r → length (written (huntOf r input .said)) ≤ roomFor (length (r .pending) + length input)
+unfolding huntOf hunt
+room-enough r input b i =
+    let l : List ℕ = r .pending ++ input in
+    let bytes : Bytes l = bytes-append (r .pending) input (i .pending-bytes) b in
+    let fair = pieces-fair l bytes in
+    let n : length l ≡ length (r .pending) + length input = length-append (r .pending) input in
+    omega (arith, nineteen r (cut serial l .pieces) fair i, four (cut serial l .pieces) fair, conserved serial l, n)
+
+-- "So 4,096 bytes with 18 pending need 19,532 bytes of room."
+pub most-room : roomFor (18 + 4096) ≡ 19532
+most-room = refl
