@@ -66,7 +66,7 @@ unfolding allZero
 zeros zero = refl
 zeros (suc n) = zeros n
 
-padded : (m : ℕ) (l : List ℕ) → length l ≤ m → bytesAt m l 0 ≡ l ++ replicate (m - length l) 0
+pub padded : (m : ℕ) (l : List ℕ) → length l ≤ m → bytesAt m l 0 ≡ l ++ replicate (m - length l) 0
 padded m l h =
     let e : length (l ++ replicate (m - length l) 0) ≡ m = simp (length-append, length-replicate) (omega arith) in
     rw e at (padded-by l (replicate (m - length l) 0) (zeros (m - length l)))

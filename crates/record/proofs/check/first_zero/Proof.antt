@@ -6,8 +6,6 @@ use Rattle.record.proofs.Scan.{part, first-skip, first-hit, first-end}
 use Rattle.record.specs.Limits.{beforeZero}
 use Rattle.record.proofs.check.first_zero.Statement.{statement}
 use Rattle.record.proofs.check.first_zero.Tie as tie
-use Rattle.record.proofs.check.first_zero.Reads as reads
-use Rattle.record.proofs.check.first_zero.Lts as lts
 
 abbrev Inv-loop : tie.InvT-loop
 Inv-loop s from to at₀ at = (at ≤ to) × (from + length (beforeZero (part s from to)) ≡ at + length (beforeZero (part s at to)))

@@ -4,16 +4,6 @@ use borrow.Author.Tests.{not-true, not-false}
 use borrow.Author.Needs.{needs}
 use Rattle.record.proofs.check.form_of.Statement.{statement}
 use Rattle.record.proofs.check.form_of.Tie as tie
-use Rattle.record.proofs.check.form_of.Reads as reads
-use Rattle.record.proofs.check.form_of.Lts as lts
-use Rattle.record.proofs.check.head_fine.Reads as head-fine-reads
-use Rattle.record.proofs.check.inputs_fine.Reads as inputs-fine-reads
-use Rattle.record.proofs.check.model_fine.Reads as model-fine-reads
-use Rattle.record.proofs.check.name_fine.Reads as name-fine-reads
-use Rattle.record.proofs.check.pairs_fine.Reads as pairs-fine-reads
-use Rattle.record.proofs.check.pending_fine.Reads as pending-fine-reads
-use Rattle.record.proofs.check.radio_fine.Reads as radio-fine-reads
-use Rattle.record.proofs.check.switches_fine.Reads as switches-fine-reads
 
 returns : tie.Need-returns
 returns c = short (c .before .before .args .s .now) (c .if1 .taken)

@@ -2,9 +2,6 @@ use Rattle.record.proofs.Groups.{head-is}
 use borrow.Author.Needs.{needs}
 use Rattle.record.proofs.check.head_fine.Statement.{statement}
 use Rattle.record.proofs.check.head_fine.Tie as tie
-use Rattle.record.proofs.check.head_fine.Reads as reads
-use Rattle.record.proofs.check.head_fine.Lts as lts
-use Rattle.wire.proofs.numbers.half_at.Reads as half-at-reads
 
 half-at-requires : tie.Need-half-at-requires
 half-at-requires c κs = search needs

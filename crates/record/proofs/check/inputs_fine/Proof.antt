@@ -2,8 +2,6 @@ use Rattle.record.proofs.Groups.{inputs-is}
 use borrow.Author.Needs.{needs}
 use Rattle.record.proofs.check.inputs_fine.Statement.{statement}
 use Rattle.record.proofs.check.inputs_fine.Tie as tie
-use Rattle.record.proofs.check.inputs_fine.Reads as reads
-use Rattle.record.proofs.check.inputs_fine.Lts as lts
 
 shared-slice-read-result : tie.Need-shared-slice-read-result
 shared-slice-read-result c = search needs

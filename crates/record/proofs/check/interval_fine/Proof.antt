@@ -1,8 +1,6 @@
 use Rattle.record.proofs.Tests.{fits-interval}
 use Rattle.record.proofs.check.interval_fine.Statement.{statement}
 use Rattle.record.proofs.check.interval_fine.Tie as tie
-use Rattle.record.proofs.check.interval_fine.Reads as reads
-use Rattle.record.proofs.check.interval_fine.Lts as lts
 
 returns : tie.Need-returns
 returns c = fits-interval (c .args .b) (c .fits .b .fits)

@@ -3,10 +3,6 @@ use mathlib.Core.Path.{sym, _∙_}
 use borrow.Author.Needs.{needs}
 use Rattle.record.proofs.check.model_fine.Statement.{statement}
 use Rattle.record.proofs.check.model_fine.Tie as tie
-use Rattle.record.proofs.check.model_fine.Reads as reads
-use Rattle.record.proofs.check.model_fine.Lts as lts
-use Rattle.record.proofs.check.first_zero.Reads as first-zero-reads
-use Rattle.record.proofs.check.zeros.Reads as zeros-reads
 
 first-zero-requires : tie.Need-first-zero-requires
 first-zero-requires c κs = search needs

@@ -7,8 +7,6 @@ use Rattle.record.specs.Limits.{nameRange}
 use Rattle.wire.specs.Ranges.{fits}
 use Rattle.record.proofs.check.name_bytes.Statement.{statement}
 use Rattle.record.proofs.check.name_bytes.Tie as tie
-use Rattle.record.proofs.check.name_bytes.Reads as reads
-use Rattle.record.proofs.check.name_bytes.Lts as lts
 
 abbrev Inv-loop : tie.InvT-loop
 Inv-loop s from to at₀ at = (at ≤ to) × (nameRange (part s from to) ≡ nameRange (part s at to))

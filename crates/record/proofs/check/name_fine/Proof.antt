@@ -4,10 +4,6 @@ use native.Mathlib.Omega.{arith}
 use borrow.Author.Needs.{needs}
 use Rattle.record.proofs.check.name_fine.Statement.{statement}
 use Rattle.record.proofs.check.name_fine.Tie as tie
-use Rattle.record.proofs.check.name_fine.Reads as reads
-use Rattle.record.proofs.check.name_fine.Lts as lts
-use Rattle.record.proofs.check.name_bytes.Reads as name-bytes-reads
-use Rattle.record.proofs.check.zeros.Reads as zeros-reads
 
 shared-slice-read-n : tie.Need-shared-slice-read-n
 shared-slice-read-n c = search needs

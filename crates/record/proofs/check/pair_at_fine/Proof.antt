@@ -2,10 +2,6 @@ use mathlib.Core.Path.{refl, _∙_}
 use borrow.Author.Needs.{needs}
 use Rattle.record.proofs.check.pair_at_fine.Statement.{statement}
 use Rattle.record.proofs.check.pair_at_fine.Tie as tie
-use Rattle.record.proofs.check.pair_at_fine.Reads as reads
-use Rattle.record.proofs.check.pair_at_fine.Lts as lts
-use Rattle.record.proofs.check.pair_fine.Reads as pair-fine-reads
-use Rattle.wire.proofs.numbers.word_at.Reads as word-at-reads
 
 shared-slice-read-pair-fine : tie.Need-shared-slice-read-pair-fine
 shared-slice-read-pair-fine c = search needs

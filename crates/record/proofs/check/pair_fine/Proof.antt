@@ -4,10 +4,6 @@ use Rattle.peak.proofs.Order.{pair-test}
 use borrow.Author.Needs.{needs}
 use Rattle.record.proofs.check.pair_fine.Statement.{statement}
 use Rattle.record.proofs.check.pair_fine.Tie as tie
-use Rattle.record.proofs.check.pair_fine.Reads as reads
-use Rattle.record.proofs.check.pair_fine.Lts as lts
-use Rattle.peak.proofs.float_of.Reads as float-of-reads
-use Rattle.peak.proofs.is_finite.Reads as is-finite-reads
 
 returns : tie.Need-returns
 returns c = rw (not-true (c .before .args .reading) (c .if1 .taken)) refl

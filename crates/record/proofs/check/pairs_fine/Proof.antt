@@ -2,9 +2,6 @@ use Rattle.record.proofs.Groups.{pairs-is}
 use borrow.Author.Needs.{needs}
 use Rattle.record.proofs.check.pairs_fine.Statement.{statement}
 use Rattle.record.proofs.check.pairs_fine.Tie as tie
-use Rattle.record.proofs.check.pairs_fine.Reads as reads
-use Rattle.record.proofs.check.pairs_fine.Lts as lts
-use Rattle.record.proofs.check.pair_at_fine.Reads as pair-at-fine-reads
 
 pair-at-fine-requires : tie.Need-pair-at-fine-requires
 pair-at-fine-requires c κs = search needs

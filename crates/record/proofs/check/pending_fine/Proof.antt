@@ -4,10 +4,6 @@ use native.Mathlib.Omega.{arith}
 use borrow.Author.Needs.{needs}
 use Rattle.record.proofs.check.pending_fine.Statement.{statement}
 use Rattle.record.proofs.check.pending_fine.Tie as tie
-use Rattle.record.proofs.check.pending_fine.Reads as reads
-use Rattle.record.proofs.check.pending_fine.Lts as lts
-use Rattle.record.proofs.check.waiting_fine.Reads as waiting-fine-reads
-use Rattle.record.proofs.check.zeros.Reads as zeros-reads
 
 shared-slice-read-n : tie.Need-shared-slice-read-n
 shared-slice-read-n c = search needs

@@ -1,8 +1,6 @@
 use Rattle.record.proofs.Tests.{fits-power}
 use Rattle.record.proofs.check.power_fine.Statement.{statement}
 use Rattle.record.proofs.check.power_fine.Tie as tie
-use Rattle.record.proofs.check.power_fine.Reads as reads
-use Rattle.record.proofs.check.power_fine.Lts as lts
 
 returns : tie.Need-returns
 returns c = fits-power (c .args .w) (c .fits .w .fits)

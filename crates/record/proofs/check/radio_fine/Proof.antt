@@ -6,10 +6,6 @@ use Rattle.record.specs.Limits.{powerRange}
 use borrow.Author.Needs.{needs}
 use Rattle.record.proofs.check.radio_fine.Statement.{statement}
 use Rattle.record.proofs.check.radio_fine.Tie as tie
-use Rattle.record.proofs.check.radio_fine.Reads as reads
-use Rattle.record.proofs.check.radio_fine.Lts as lts
-use Rattle.record.proofs.check.power_fine.Reads as power-fine-reads
-use Rattle.wire.proofs.numbers.half_at.Reads as half-at-reads
 
 half-at-requires : tie.Need-half-at-requires
 half-at-requires c κs = search needs

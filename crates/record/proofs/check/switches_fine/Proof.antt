@@ -2,10 +2,6 @@ use Rattle.record.proofs.Groups.{switches-is}
 use borrow.Author.Needs.{needs}
 use Rattle.record.proofs.check.switches_fine.Statement.{statement}
 use Rattle.record.proofs.check.switches_fine.Tie as tie
-use Rattle.record.proofs.check.switches_fine.Reads as reads
-use Rattle.record.proofs.check.switches_fine.Lts as lts
-use Rattle.record.proofs.check.interval_fine.Reads as interval-fine-reads
-use Rattle.wire.proofs.numbers.word_at.Reads as word-at-reads
 
 shared-slice-read-interval-fine : tie.Need-shared-slice-read-interval-fine
 shared-slice-read-interval-fine c = search needs

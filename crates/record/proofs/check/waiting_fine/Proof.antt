@@ -2,8 +2,6 @@ use Rattle.record.proofs.Pending.{none, not-aa, one, head}
 use borrow.Author.Needs.{needs}
 use Rattle.record.proofs.check.waiting_fine.Statement.{statement}
 use Rattle.record.proofs.check.waiting_fine.Tie as tie
-use Rattle.record.proofs.check.waiting_fine.Reads as reads
-use Rattle.record.proofs.check.waiting_fine.Lts as lts
 
 returns : tie.Need-returns
 returns c = let a = c .before .args in none (a .s .now) (a .n) (c .before .pre .0) (c .before .pre .1) (c .if1 .taken)

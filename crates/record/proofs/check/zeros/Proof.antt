@@ -6,8 +6,6 @@ use Rattle.record.proofs.Scan.{part, zero-skip, zero-hit, zero-end}
 use Rattle.record.specs.Form.{allZero}
 use Rattle.record.proofs.check.zeros.Statement.{statement}
 use Rattle.record.proofs.check.zeros.Tie as tie
-use Rattle.record.proofs.check.zeros.Reads as reads
-use Rattle.record.proofs.check.zeros.Lts as lts
 
 abbrev Inv-loop : tie.InvT-loop
 Inv-loop s from to at₀ at = (at ≤ to) × (allZero (part s from to) ≡ allZero (part s at to))

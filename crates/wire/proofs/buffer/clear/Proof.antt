@@ -7,8 +7,6 @@ use Prim.Native.Nat.{ℕ, _+_, _-_, _≤_}
 use mathlib.Core.Path.{_≡_, refl, sym, _∙_}
 use Rattle.wire.proofs.buffer.clear.Statement.{statement}
 use Rattle.wire.proofs.buffer.clear.Tie as tie
-use Rattle.wire.proofs.buffer.clear.Reads as reads
-use Rattle.wire.proofs.buffer.clear.Lts as lts
 
 abbrev Inv-loop : tie.InvT-loop
 Inv-loop buffer₀ at end n i₀ buffer i = (i ≤ n) × (length buffer ≡ length buffer₀) × (buffer ≡ put buffer₀ at (replicate i 0))

@@ -8,8 +8,6 @@ use Prim.Native.Nat.{ℕ, _+_, _-_, _≤_}
 use mathlib.Core.Path.{_≡_, refl, sym, _∙_}
 use Rattle.wire.proofs.buffer.put_in.Statement.{statement}
 use Rattle.wire.proofs.buffer.put_in.Tie as tie
-use Rattle.wire.proofs.buffer.put_in.Reads as reads
-use Rattle.wire.proofs.buffer.put_in.Lts as lts
 
 abbrev Inv-loop : tie.InvT-loop
 Inv-loop buffer₀ at part i₀ buffer i = (i ≤ length part) × (length buffer ≡ length buffer₀) × (buffer ≡ put buffer₀ at (take i part))
