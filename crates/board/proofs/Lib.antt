@@ -3,3 +3,4 @@ pub mod Kept
 pub mod Room
 pub mod Exit
 pub mod Empty
+pub mod Ends

@@ -34,9 +34,13 @@ pub record Outcome : Type 0 where
   pub kept : List ℕ
   pub output : List ℕ
 
+-- an ending with zero counts
+abbrev pub zeroes : Ending → Answer
+zeroes why = record { result = resultOf why; written = 0; skipped = 0 }
+
 -- "A refusal returns its number and zero counts, and writes to no buffer."
 abbrev pub refused : Ending → List ℕ → List ℕ → Outcome
-refused why s o = record { answer = record { result = resultOf why; written = 0; skipped = 0 }; kept = s; output = o }
+refused why s o = record { answer = zeroes why; kept = s; output = o }
 
 -- "0 done; counts are bytes written and bytes skipped; output behind the written bytes is unchanged"
 abbrev pub done : Record → List ℕ → ℕ → List ℕ → Outcome

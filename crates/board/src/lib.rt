@@ -1,3 +1,12 @@
+// The four calls of the board.
+ghost use mathlib.Core.Path.{_≡_};
+ghost use mathlib.Core.List.{[]};
+ghost use Rattle.board.specs.Calls.{zeroes, factoryCall, powerOnCall, Leaves};
+use record::Form;
+use record::check::form_of;
+use store::fresh::switch_on;
+use store::fresh::write_factory;
+
 // How a call ends.
 pub enum Ending {
     Done,
@@ -13,4 +22,44 @@ pub struct Answer {
     pub result: u32,
     pub written: u32,
     pub skipped: u32,
+}
+
+// An ending with zero counts.
+fn ended(why: Ending) -> Answer
+    ensures { λ a. ⌜ a ≡ zeroes why ⌝ }
+{
+    let result = match why {
+        Ending::Done => 0,
+        Ending::BadRecord => 1,
+        Ending::BadLength => 2,
+        Ending::NoRoom => 3,
+        Ending::NotFinite => 4,
+    };
+    Answer {
+        result,
+        written: 0,
+        skipped: 0,
+    }
+}
+
+#[no_mangle]
+pub extern "C" fn board_factory(rec: &mut [u8]) -> Answer
+    ensures { λ a. ⌜ Leaves (factoryCall (now (rec .entry))) a (now (rec .exit)) [] ⌝ }
+{
+    if rec.len() != 123 {
+        return ended(Ending::BadRecord);
+    }
+    write_factory(rec);
+    ended(Ending::Done)
+}
+
+#[no_mangle]
+pub extern "C" fn board_power_on(rec: &mut [u8]) -> Answer
+    ensures { λ a. ⌜ Leaves (powerOnCall (now (rec .entry))) a (now (rec .exit)) [] ⌝ }
+{
+    let Form::Good = form_of(rec) else {
+        return ended(Ending::BadRecord);
+    };
+    switch_on(rec);
+    ended(Ending::Done)
 }

@@ -1,0 +1,58 @@
+use native.Mathlib.Omega.{arith}
+use Rattle.board.proofs.Ends.{power-on-refuses, power-on-ends, good-long}
+use mathlib.Core.Path.{sym, _∙_}
+use borrow.Author.Needs.{needs}
+use Rattle.board.proofs.board_power_on.Statement.{statement}
+use Rattle.board.proofs.board_power_on.Tie as tie
+use Rattle.board.proofs.board_power_on.Reads as reads
+use Rattle.board.proofs.board_power_on.Lts as lts
+use Rattle.board.proofs.ended.Reads as ended-reads
+use Rattle.record.proofs.check.form_of.Reads as form-of-reads
+use Rattle.store.proofs.fresh.switch_on.Reads as switch-on-reads
+
+form-of-requires : tie.Need-form-of-requires
+form-of-requires c κs = search needs
+
+enum-told : tie.Need-enum-told
+enum-told c = search needs
+
+enum-told-2 : tie.Need-enum-told-2
+enum-told-2 c = search needs
+
+ended-requires : tie.Need-ended-requires
+ended-requires c κs = search needs
+
+same-length : tie.Need-same-length
+same-length c = search needs
+
+returns : tie.Need-returns
+returns c = power-on-refuses (c .before .before .before .before .before .before .args .rec .now) _ (sym (c .before .before .before .form-of .ensures) ∙ c .before .enum-told2 .given .1) (c .ended .ensures)
+
+switch-on-requires : tie.Need-switch-on-requires
+switch-on-requires c κs = good-long (c .before .before .before .before .before .before .args .rec .now) (sym (c .before .before .before .form-of .ensures) ∙ c .before .enum-told .given .1)
+
+ended-requires-2 : tie.Need-ended-requires-2
+ended-requires-2 c κs = search needs
+
+same-length-2 : tie.Need-same-length-2
+same-length-2 c = search needs
+
+returns-2 : tie.Need-returns-2
+returns-2 c =
+    let s = c .before .before .before .before .before .before .before .before .before .before in
+    power-on-ends (s .args .rec .now) _ (λ i. omega (arith, c .before .before .before .before .before .before .before .before .before .slice-known .given i)) (sym (c .before .before .before .before .before .before .before .form-of .ensures) ∙ c .before .before .before .before .before .enum-told .given .1) _ (c .before .before .before .switch-on .ensures) (c .ended2 .ensures)
+
+pub board-power-on-spec : {M : Type 1} → statement M
+board-power-on-spec =
+    tie.close
+    (tie.spec
+    form-of-requires
+    enum-told
+    enum-told-2
+    ended-requires
+    same-length
+    returns
+    switch-on-requires
+    ended-requires-2
+    same-length-2
+    returns-2)
