@@ -43,10 +43,6 @@ All P (p ∷ pieces) = P p × All P pieces
 abbrev pub andThen : Cut → Cut → Cut
 andThen a b = record { pieces = a .pieces ++ b .pieces; skipped = a .skipped + b .skipped; waiting = b .waiting }
 
--- so many bytes skipped before a cut
-abbrev pub skips : ℕ → Cut → Cut
-skips k c = record { pieces = c .pieces; skipped = k + c .skipped; waiting = c .waiting }
-
 -- ---- what a decision says of the bytes that are there
 
 settle-take : (a s : Bool) (n m : ℕ) → settle a s n ≡ Take m → (a ≡ true) × (s ≡ true) × (n ≡ m)

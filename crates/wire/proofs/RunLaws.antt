@@ -5,8 +5,9 @@ use mathlib.Core.List.{List, [], _∷_, _++_, append-assoc}
 use native.Mathlib.Nat.{zero-add}
 use lib.ListN.{length, getD, take, drop}
 use Rattle.wire.specs.Frames.{Heads, Look, Skip, Wait, Take, Tear, look, Piece, Whole, Broken, Cut, cut}
+use Rattle.wire.specs.Finder.{skips}
 use Rattle.wire.specs.Run.{Run, runs, Hunted, runCut, hunt}
-use Rattle.wire.proofs.CutLaws.{Steady, All, skips, cut-wait, cut-take, cut-tear, packets}
+use Rattle.wire.proofs.CutLaws.{Steady, All, cut-wait, cut-take, cut-tear, packets}
 
 module _ (S A : Type 0) where
   abbrev pub halt : S → List ℕ → Hunted S A

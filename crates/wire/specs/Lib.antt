@@ -5,3 +5,4 @@ pub mod Serial
 pub mod Replies
 pub mod Run
 pub mod HuntRows
+pub mod Finder
