@@ -4,3 +4,4 @@ pub mod Room
 pub mod Exit
 pub mod Empty
 pub mod Ends
+pub mod SofarLaws

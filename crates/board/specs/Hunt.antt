@@ -8,10 +8,14 @@ use Rattle.wire.specs.Run.{Hunted, hunt}
 use Rattle.record.specs.Record.{Record, withPending}
 use Rattle.command.specs.Step.{stepOf, answer}
 
+-- the hunt of a board through a stream
+abbrev pub huntFrom : Record → List ℕ → Hunted Record Reply
+huntFrom r l = hunt serial answer r l
+
 -- "The bytes call joins the pending bytes of the record and its input, and hunts from the left (*house*)"
 unfoldable pub huntOf : Record → List ℕ → Hunted Record Reply
 unfolding serial hunt stepOf
-huntOf r input = hunt serial answer r (r .pending ++ input)
+huntOf r input = huntFrom r (r .pending ++ input)
 
 -- "Waiting bytes (at most 18) become the new pending bytes."
 unfoldable pub recordAfter : Hunted Record Reply → Record

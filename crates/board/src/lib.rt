@@ -24,6 +24,13 @@ pub struct Answer {
     pub skipped: u32,
 }
 
+// How far a hunt came: the place in its stream, the place in the output, the bytes skipped.
+pub struct Progress {
+    pub at: usize,
+    pub wrote: usize,
+    pub skipped: usize,
+}
+
 // An ending with zero counts.
 fn ended(why: Ending) -> Answer
     ensures { λ a. ⌜ a ≡ zeroes why ⌝ }

@@ -1,7 +1,7 @@
 -- Replies: their length, and how they stand one behind the other.
 use Prim.Native.Nat.{ℕ, _+_, _≤_}
 use mathlib.Core.Path.{_≡_, refl, sym, ap, _∙_}
-use mathlib.Core.List.{List, [], _∷_, _++_, append-assoc}
+use mathlib.Core.List.{List, [], _∷_, _++_, append-assoc, append-nil}
 use native.Mathlib.Omega.{arith}
 use lib.ListN.{length, length-append}
 use Rattle.wire.specs.Replies.{Reply, replyBytes, written}
@@ -26,3 +26,7 @@ pub written-append : (said more : List Reply) → written (said ++ more) ≡ wri
 unfolding written
 written-append [] more = refl
 written-append (a ∷ said) more = ap (λ (x : List ℕ). replyBytes a ++ x) (written-append said more) ∙ sym (append-assoc (replyBytes a) (written said) (written more))
+
+pub written-one : (a : Reply) → written (a ∷ []) ≡ replyBytes a
+unfolding written
+written-one a = append-nil (replyBytes a)

@@ -2,20 +2,19 @@
 use Prim.Native.Nat.{ℕ, zero, suc, _+_}
 use mathlib.Core.Path.{_≡_, refl, sym, ap, ap₂, _∙_}
 use mathlib.Core.List.{List, [], _∷_, _++_, append-assoc}
-use native.Mathlib.Nat.{zero-add}
+use native.Mathlib.Nat.{zero-add, add-assoc}
 use lib.ListN.{length, getD, take, drop}
 use Rattle.wire.specs.Frames.{Heads, Look, Skip, Wait, Take, Tear, look, Piece, Whole, Broken, Cut, cut}
 use Rattle.wire.specs.Finder.{skips}
-use Rattle.wire.specs.Run.{Run, runs, Hunted, runCut, hunt}
+use Rattle.wire.specs.Run.{Run, runs, Hunted, runCut, hunt, halt, ahead}
 use Rattle.wire.proofs.CutLaws.{Steady, All, cut-wait, cut-take, cut-tear, packets}
 
 module _ (S A : Type 0) where
-  abbrev pub halt : S → List ℕ → Hunted S A
-  halt s l = record { state = s; said = []; skipped = 0; waiting = l }
+  pub ahead-none : (h : Hunted S A) → ahead [] 0 h ≡ h
+  ahead-none h = rw zero-add refl
 
-  -- what was said and skipped before, put ahead of a hunt
-  abbrev pub ahead : List A → ℕ → Hunted S A → Hunted S A
-  ahead said k r = record { state = r .state; said = said ++ r .said; skipped = k + r .skipped; waiting = r .waiting }
+  pub ahead-ahead : (a b : List A) (k m : ℕ) (h : Hunted S A) → ahead a k (ahead b m h) ≡ ahead (a ++ b) (k + m) h
+  ahead-ahead a b k m h = rw (append-assoc a b (h .said), add-assoc k m (h .skipped)) refl
 
   module _ (heads : Heads) (answer : S → Piece → Run S A) where
     pub hunt-nil : (s : S) → hunt heads answer s [] ≡ halt s []
@@ -51,6 +50,14 @@ module _ (S A : Type 0) where
         → let a = hunt heads answer s l in hunt heads answer s (l ++ more) ≡ ahead (a .said) (a .skipped) (hunt heads answer (a .state) (a .waiting ++ more))
     unfolding hunt
     hunt-packets steady s l more = rw (packets heads steady l more, runs-append) refl
+
+    -- what was found out on a front holds on every stream that begins with it
+    pub hunt-further : Steady heads → (s b : S) (h g more : List ℕ) (said : List A) (k : ℕ) → hunt heads answer s h ≡ ahead said k (hunt heads answer b g)
+        → hunt heads answer s (h ++ more) ≡ ahead said k (hunt heads answer b (g ++ more))
+    hunt-further steady s b h g more said k e =
+        let x = hunt heads answer b g in
+        hunt-packets steady s h more
+        ∙ rw (e, hunt-packets steady b g more) (sym (ahead-ahead said (x .said) k (x .skipped) (hunt heads answer (x .state) (x .waiting ++ more))))
 
     -- a property of states that the answer to every fair piece keeps
     module _ (Keeps : S → Type 0) (Fair : Piece → Type 0) (kept : (s : S) (p : Piece) → Fair p → Keeps s → Keeps (answer s p .state)) where

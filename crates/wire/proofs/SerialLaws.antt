@@ -84,7 +84,7 @@ headed-by true false t n m e = let z : _≡_ {A = ℕ} 0 1 = cc in absurd (omega
 headed-by true true true n m e = refl
 headed-by true true false n m e = let z : _≡_ {A = ℕ} 0 1 = cc in absurd (omega arith)
 
-fair-whole : (l : List ℕ) → Bytes l → (k n : ℕ) → look serial (drop k l) ≡ Take n → Fair (Whole (take (4 + n) (drop k l)))
+pub fair-whole : (l : List ℕ) → Bytes l → (k n : ℕ) → look serial (drop k l) ≡ Take n → Fair (Whole (take (4 + n) (drop k l)))
 unfolding serial
 fair-whole l b k n e =
     let r = cuts.take-room serial (drop k l) n e in

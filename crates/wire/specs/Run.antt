@@ -1,5 +1,5 @@
 -- The pieces of a stream answered one after the other, for any kind of state and answer.
-use Prim.Native.Nat.{ℕ}
+use Prim.Native.Nat.{ℕ, _+_}
 use mathlib.Core.List.{List, [], _∷_, _++_}
 use Rattle.wire.specs.Frames.{Heads, Piece, Cut, cutFrom, cut}
 
@@ -26,3 +26,10 @@ runCut answer s c = record { state = runs answer s (c .pieces) .state; said = ru
 unfoldable pub hunt : {S A : Type 0} → Heads → (S → Piece → Run S A) → S → List ℕ → Hunted S A
 unfolding runs cutFrom
 hunt heads answer s l = runCut answer s (cut heads l)
+
+-- a hunt that stops at once, and one with something said and skipped before it
+abbrev pub halt : {S A : Type 0} → S → List ℕ → Hunted S A
+halt s l = record { state = s; said = []; skipped = 0; waiting = l }
+
+abbrev pub ahead : {S A : Type 0} → List A → ℕ → Hunted S A → Hunted S A
+ahead said k h = record { state = h .state; said = said ++ h .said; skipped = k + h .skipped; waiting = h .waiting }

@@ -1,0 +1,16 @@
+-- What carrying out one whole frame leaves in the record's bytes and in the output.
+use Prim.Native.Nat.{ℕ, _+_, _≤_}
+use mathlib.Core.Path.{_≡_}
+use mathlib.Core.List.{List}
+use lib.ListN.{length}
+use Rattle.wire.specs.Numbers.{put}
+use Rattle.wire.specs.Replies.{replyBytes}
+use Rattle.record.specs.Record.{Record}
+use Rattle.record.specs.Place.{Holds}
+use Rattle.command.specs.Step.{stepOf}
+
+pub record Carries (r : Record) (f before : List ℕ) (at end : ℕ) (kept after : List ℕ) : Type 0 where
+  pub held : Holds (stepOf r f .after) kept
+  pub ends : end ≡ at + length (replyBytes (stepOf r f .reply))
+  pub small : end ≤ at + 19
+  pub bytes : after ≡ put before at (replyBytes (stepOf r f .reply))
