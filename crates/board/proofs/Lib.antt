@@ -5,3 +5,5 @@ pub mod Exit
 pub mod Empty
 pub mod Ends
 pub mod SofarLaws
+pub mod GoingLaws
+pub mod ServeLaws

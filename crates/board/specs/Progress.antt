@@ -29,11 +29,15 @@ pub record Sofar (r : Record) (l before : List ℕ) (start : ℕ) (b : Record) (
   pub wrote-is : wrote ≡ start + length (written said)
   pub bytes : out ≡ put before start (written said)
 
--- what the hunt through a stream leaves: it came up to a place, or to a candidate that waits
-pub record Hunts (r : Record) (l before : List ℕ) (until start : ℕ) (p : Progress) (kept out : List ℕ) : Type 0 where
+-- and the record's bytes those of the board
+pub record Going (r : Record) (l before : List ℕ) (start at skipped wrote : ℕ) (kept out : List ℕ) : Type 0 where
   pub board : Record
   pub held : Holds board kept
-  pub sofar : Sofar r l before start board (p .at) (p .skipped) (p .wrote) out
+  pub sofar : Sofar r l before start board at skipped wrote out
+
+-- what the hunt through a stream leaves: it came up to a place, or to a candidate that waits
+pub record Hunts (r : Record) (l before : List ℕ) (until start : ℕ) (p : Progress) (kept out : List ℕ) : Type 0 where
+  pub going : Going r l before start (p .at) (p .skipped) (p .wrote) kept out
   pub stops : (until ≤ p .at) ⊎ (look serial (drop (p .at) l) ≡ Wait)
 
 -- what a bytes call that passed its checks leaves

@@ -1,0 +1,58 @@
+-- The same with the record in its bytes.
+use Prim.Native.Nat.{ℕ, _+_, _-_, _*_, _/_, _≤_}
+use mathlib.Core.Path.{_≡_, refl, sym, ap, _∙_, subst}
+use mathlib.Core.List.{List}
+use lib.ListN.{length, take, drop}
+use Rattle.wire.specs.Frames.{look, Take, Tear}
+use Rattle.wire.specs.Serial.{serial}
+use Rattle.wire.specs.Finder.{Passed}
+use Rattle.record.specs.Record.{Record}
+use Rattle.record.specs.Layout.{bytesOf, recordOf}
+use Rattle.record.specs.Place.{Holds, Sound}
+use Rattle.record.proofs.RoundTrip.{read-back}
+use Rattle.record.proofs.Lens.{long}
+use Rattle.command.specs.Step.{stepOf}
+use Rattle.command.specs.Carry.{Carries}
+use Rattle.board.specs.Progress.{Going}
+use Rattle.board.proofs.SofarLaws.{sofar-start, sofar-pass, sofar-tear, sofar-long, sofar-room, sofar-take}
+
+module _ (r : Record) (s : List ℕ) (h : Holds r s) where
+  pub holds-is : recordOf s ≡ r
+  holds-is = ap recordOf (h .same) ∙ read-back r (h .fit)
+
+  pub holds-sound : Sound s
+  holds-sound = rw holds-is h
+
+  pub holds-long : length s ≡ 123
+  holds-long = ap length (h .same) ∙ long r
+
+module _ (l before : List ℕ) (start : ℕ) where
+  pub going-start : (s : List ℕ) → Sound s → Going (recordOf s) l before start 0 0 start s before
+  going-start s h = record { board = recordOf s; held = h; sofar = sofar-start (recordOf s) l before start }
+
+  module _ (r : Record) (at skipped wrote : ℕ) (kept out : List ℕ) (g : Going r l before start at skipped wrote kept out) where
+    pub going-sound : Sound kept
+    going-sound = holds-sound (g .board) kept (g .held)
+
+    pub going-kept : length kept ≡ 123
+    going-kept = holds-long (g .board) kept (g .held)
+
+    pub going-pass : (to : ℕ) → Passed l at to → Going r l before start to (skipped + (to - at)) wrote kept out
+    going-pass to p = record { board = g .board; held = g .held; sofar = sofar-pass r l before start (g .board) at skipped wrote out (g .sofar) to p }
+
+    pub going-tear : look serial (drop at l) ≡ Tear → Going r l before start (at + 1) (skipped + 1) wrote kept out
+    going-tear e = record { board = g .board; held = g .held; sofar = sofar-tear r l before start (g .board) at skipped wrote out (g .sofar) e }
+
+    module _ (room : start + 19 * (length l / 4) ≤ length before) where
+      pub going-long : length out ≡ length before
+      going-long = sofar-long r l before start (g .board) at skipped wrote out (g .sofar) room
+
+      module _ (n : ℕ) (e : look serial (drop at l) ≡ Take n) where
+        pub going-room : wrote + 19 ≤ length out
+        going-room = sofar-room r l before start (g .board) at skipped wrote out (g .sofar) room n e
+
+        pub going-take : (end : ℕ) (kept′ out′ : List ℕ) → Carries (recordOf kept) (take (4 + n) (drop at l)) out wrote end kept′ out′ → Going r l before start (at + 4 + n) skipped end kept′ out′
+        going-take end kept′ out′ c =
+            let d : Carries (g .board) (take (4 + n) (drop at l)) out wrote end kept′ out′ =
+            subst (λ (b : Record). Carries b (take (4 + n) (drop at l)) out wrote end kept′ out′) (holds-is (g .board) kept (g .held)) c in
+            record { board = stepOf (g .board) (take (4 + n) (drop at l)) .after; held = d .held; sofar = sofar-take r l before start (g .board) at skipped wrote out (g .sofar) room n e end kept′ out′ d }
