@@ -4,3 +4,4 @@ pub mod Judge
 pub mod Step
 pub mod Compare
 pub mod Carry
+pub mod Checks

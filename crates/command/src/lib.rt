@@ -1,3 +1,6 @@
+// The command tables, and how a frame is judged by them.
+pub mod judge;
+
 // The commands of both tables, in the order of the tables.
 pub enum Command {
     Open,
@@ -33,6 +36,12 @@ pub enum Listed {
     Built(Command),
     NotBuilt,
     Unlisted,
+}
+
+// The least and the greatest number of parameters that a command takes.
+pub struct Count {
+    pub least: usize,
+    pub most: usize,
 }
 
 // Whether the number of parameters is one that the command takes.

@@ -73,7 +73,7 @@ fn zeros(s: &[u8], from: usize, to: usize) -> bool
 }
 
 // Whether the bytes from a place up to another may stand in a name.
-fn name_bytes(s: &[u8], from: usize, to: usize) -> bool
+pub fn name_bytes(s: &[u8], from: usize, to: usize) -> bool
     requires { ⌜ (from ≤ to) × (to ≤ length (now s)) ⌝ }
     ensures { λ r. ⌜ r ≡ fits (nameRange (take (to - from) (drop from (now (s .entry))))) ⌝ }
 {
