@@ -1,30 +1,19 @@
 -- The same with the record in its bytes.
 use Prim.Native.Nat.{ℕ, _+_, _-_, _*_, _/_, _≤_}
-use mathlib.Core.Path.{_≡_, refl, sym, ap, _∙_, subst}
+use mathlib.Core.Path.{_≡_, subst}
 use mathlib.Core.List.{List}
 use lib.ListN.{length, take, drop}
 use Rattle.wire.specs.Frames.{look, Take, Tear}
 use Rattle.wire.specs.Serial.{serial}
 use Rattle.wire.specs.Finder.{Passed}
 use Rattle.record.specs.Record.{Record}
-use Rattle.record.specs.Layout.{bytesOf, recordOf}
-use Rattle.record.specs.Place.{Holds, Sound}
-use Rattle.record.proofs.RoundTrip.{read-back}
-use Rattle.record.proofs.Lens.{long}
+use Rattle.record.specs.Layout.{recordOf}
+use Rattle.record.specs.Place.{Sound}
+use Rattle.record.proofs.PlaceLaws.{holds-is, holds-sound, holds-long}
 use Rattle.command.specs.Step.{stepOf}
 use Rattle.command.specs.Carry.{Carries}
 use Rattle.board.specs.Progress.{Going}
 use Rattle.board.proofs.SofarLaws.{sofar-start, sofar-pass, sofar-tear, sofar-long, sofar-room, sofar-take}
-
-module _ (r : Record) (s : List ℕ) (h : Holds r s) where
-  pub holds-is : recordOf s ≡ r
-  holds-is = ap recordOf (h .same) ∙ read-back r (h .fit)
-
-  pub holds-sound : Sound s
-  holds-sound = rw holds-is h
-
-  pub holds-long : length s ≡ 123
-  holds-long = ap length (h .same) ∙ long r
 
 module _ (l before : List ℕ) (start : ℕ) where
   pub going-start : (s : List ℕ) → Sound s → Going (recordOf s) l before start 0 0 start s before

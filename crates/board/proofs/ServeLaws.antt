@@ -20,12 +20,12 @@ use Rattle.wire.proofs.RunLaws.{hunt-wait, hunt-further}
 use Rattle.record.specs.Record.{Record, withPending}
 use Rattle.record.specs.Layout.{bytesOf, recordOf}
 use Rattle.record.specs.Place.{Holds, Turns}
+use Rattle.record.proofs.PlaceLaws.{holds-is}
 use Rattle.command.specs.Step.{answer}
 use Rattle.board.specs.Hunt.{huntFrom, huntOf, recordAfter}
 use Rattle.board.specs.Progress.{Along, Sofar, Going, Hunts, Serves}
 use Rattle.board.specs.declared.Progress.{Progress}
 use Rattle.board.proofs.SofarLaws.{along-end, stopped}
-use Rattle.board.proofs.GoingLaws.{holds-is}
 
 hunt-of : (r : Record) (input : List ℕ) → huntOf r input ≡ huntFrom r (r .pending ++ input)
 unfolding huntOf

@@ -10,3 +10,4 @@ pub mod Groups
 pub mod Scan
 pub mod Pending
 pub mod Fine
+pub mod PlaceLaws
