@@ -3,17 +3,20 @@ use Prim.Native.Nat.{ℕ, _+_, _-_, _*_, _/_, _≤_}
 use mathlib.Core.Path.{_≡_, subst}
 use mathlib.Core.List.{List}
 use lib.ListN.{length, take, drop}
+use mathlib.Core.Bool.{true}
+use Rattle.wire.specs.Numbers.{Bytes}
 use Rattle.wire.specs.Frames.{look, Take, Tear}
-use Rattle.wire.specs.Serial.{serial}
+use Rattle.wire.specs.Serial.{serial, isHead, headOf}
 use Rattle.wire.specs.Finder.{Passed}
+use Rattle.wire.proofs.SerialLaws.{fair-whole}
 use Rattle.record.specs.Record.{Record}
 use Rattle.record.specs.Layout.{recordOf}
 use Rattle.record.specs.Place.{Sound}
 use Rattle.record.proofs.PlaceLaws.{holds-is, holds-sound, holds-long}
 use Rattle.command.specs.Step.{stepOf}
-use Rattle.command.specs.Carry.{Carries}
+use Rattle.carry.specs.Carry.{Carries}
 use Rattle.board.specs.Progress.{Going}
-use Rattle.board.proofs.SofarLaws.{sofar-start, sofar-pass, sofar-tear, sofar-long, sofar-room, sofar-take}
+use Rattle.board.proofs.SofarLaws.{sofar-start, sofar-pass, sofar-tear, sofar-long, sofar-room, sofar-take, found-part}
 
 module _ (l before : List ℕ) (start : ℕ) where
   pub going-start : (s : List ℕ) → Sound s → Going (recordOf s) l before start 0 0 start s before
@@ -45,3 +48,10 @@ module _ (l before : List ℕ) (start : ℕ) where
             let d : Carries (g .board) (take (4 + n) (drop at l)) out wrote end kept′ out′ =
             subst (λ (b : Record). Carries b (take (4 + n) (drop at l)) out wrote end kept′ out′) (holds-is (g .board) kept (g .held)) c in
             record { board = stepOf (g .board) (take (4 + n) (drop at l)) .after; held = d .held; sofar = sofar-take r l before start (g .board) at skipped wrote out (g .sofar) room n e end kept′ out′ d }
+
+        -- the frame as the part of the stream that was handed on
+        pub going-carried : (end : ℕ) (kept′ out′ : List ℕ) → Carries (recordOf kept) (take (at + 4 + n - at) (drop at l)) out wrote end kept′ out′ → Going r l before start (at + 4 + n) skipped end kept′ out′
+        going-carried end kept′ out′ c = going-take end kept′ out′ (subst (λ (f : List ℕ). Carries (recordOf kept) f out wrote end kept′ out′) (found-part l at n e) c)
+
+        pub going-frame : Bytes l → (4 ≤ length (take (at + 4 + n - at) (drop at l))) × (isHead (headOf (take (at + 4 + n - at) (drop at l))) ≡ true)
+        going-frame b = let w = fair-whole l b at n e in rw (found-part l at n e) (w .0, w .2)

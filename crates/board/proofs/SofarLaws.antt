@@ -23,7 +23,7 @@ use Rattle.wire.proofs.ReplyLaws.{written-append, written-one, length-none}
 use Rattle.wire.proofs.RunLaws.{ahead-none, ahead-ahead, hunt-nil, hunt-wait, hunt-pass, hunt-take, hunt-tear}
 use Rattle.record.specs.Record.{Record}
 use Rattle.command.specs.Step.{stepOf, answer}
-use Rattle.command.specs.Carry.{Carries}
+use Rattle.carry.specs.Carry.{Carries}
 use Rattle.board.specs.Hunt.{huntFrom}
 use Rattle.board.specs.Progress.{Along, Sofar}
 

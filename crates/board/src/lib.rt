@@ -1,4 +1,6 @@
 // The four calls of the board.
+pub mod serve;
+
 ghost use mathlib.Core.Path.{_≡_};
 ghost use mathlib.Core.List.{[]};
 ghost use Rattle.board.specs.Calls.{zeroes, factoryCall, powerOnCall, Leaves};

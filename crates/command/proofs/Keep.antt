@@ -42,14 +42,16 @@ also-right Fits y h = h
 also-right Big y h = cc
 also-right Small y h = cc
 
-counted-most : (c : Command) (n : ℕ) → countedOf c n ≡ Right → n ≤ spanOf c .most
+pub counted-span : (c : Command) (n : ℕ) → countedOf c n ≡ Right → (spanOf c .least ≤ n) × (n ≤ spanOf c .most)
 unfolding countedOf
-counted-most c n h = leb-true n (spanOf c .most) (second (leb (spanOf c .least) n) (leb n (spanOf c .most)) h)
+counted-span c n h =
+    let w = both (leb (spanOf c .least) n) (leb n (spanOf c .most)) h in
+    (leb-true (spanOf c .least) n (w .0), leb-true n (spanOf c .most) (w .1))
   where
-    second : (x y : Bool) → countedBy (x && y) ≡ Right → y ≡ true
-    second true true e = refl
-    second true false e = cc
-    second false y e = cc
+    both : (x y : Bool) → countedBy (x && y) ≡ Right → (x ≡ true) × (y ≡ true)
+    both true true e = (refl, refl)
+    both true false e = (cc, cc)
+    both false y e = (cc, cc)
 
 -- what holds at every place still does after a store
 set-all : (P : ℕ → Type 0) (l : List ℕ) (k v : ℕ) → P v → ((i : ℕ) → P (getD l i 0)) → (i : ℕ) → P (getD (set l k v) i 0)
@@ -71,7 +73,7 @@ effect-in SetStep r p n g b i = search
 effect-in ReadMode r p n g b i = i
 effect-in SetMode r p n g b i = search
 effect-in ReadName r p n g b i = i
-effect-in SetName r p n g b i = let short : length p ≤ 15 = counted-most SetName (length p) n in search
+effect-in SetName r p n g b i = let short : length p ≤ 15 = counted-span SetName (length p) n .1 in search
 effect-in ReadOnOff r p n g b i = i
 effect-in SetOnOff r p n g b i = search
 effect-in SetInput r p n g b i =
@@ -89,7 +91,7 @@ effect-in Unlock r p n g b i = search
 effect-in ReadLock r p n g b i = i
 effect-in ReadModel r p n g b i = i
 effect-in SetModel r p n g b i =
-    let short : length (beforeZero p) ≤ 15 = le-trans (cut-le p) (counted-most SetModel (length p) n) in
+    let short : length (beforeZero p) ≤ 15 = le-trans (cut-le p) (counted-span SetModel (length p) n .1) in
     let whole = cut-cut p in
     let bytes = cut-bytes p b in
     search
@@ -102,7 +104,7 @@ effect-in ReadPair r p n g b i = i
 -- ---- a refusal
 
 -- a code is found wrong only while configuration mode is closed and a try is left
-wrong-code : (n : Need) (r : Record) (p : List ℕ) → accessOf n r p ≡ WrongCode → (r .flags .opened ≡ false) × (r .tries < 3)
+pub wrong-code : (n : Need) (r : Record) (p : List ℕ) → accessOf n r p ≡ WrongCode → (r .flags .opened ≡ false) × (r .tries < 3)
 unfolding accessOf
 wrong-code n r p h = let w = go n (r .flags .opened) (r .flags .unlocked) (leb 3 (r .tries)) refl refl refl h in (w .0, leb-false 3 (r .tries) (w .1))
   where

@@ -3,5 +3,4 @@ pub mod Effects
 pub mod Judge
 pub mod Step
 pub mod Compare
-pub mod Carry
 pub mod Checks

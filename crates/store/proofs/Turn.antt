@@ -1,18 +1,18 @@
 -- A store in the bytes of a record is the change of its field, in the words of the code that stores.
 use Prim.Native.Nat.{ℕ, zero, suc, _+_, _-_, _*_, _%_, _^_, _≤_}
-use mathlib.Core.Path.{_≡_, refl, sym, ap, _∙_}
+use mathlib.Core.Path.{_≡_, refl, ap, _∙_}
 use mathlib.Core.Bool.{Bool, true, false}
-use mathlib.Core.List.{List, append-assoc}
+use mathlib.Core.List.{List}
 use native.Mathlib.Nat.{not-suc-le-zero}
 use native.Mathlib.Omega.{arith}
 use lib.ListN.{length, getD, take, drop, set, replicate}
-use lib.Seq.{sets, sets-eq, take-all}
+use lib.Seq.{sets, take-all}
 use lib.Dec.{leb, eqb}
 use lib.Bits.{bitAnd, bitOr}
 use borrow.Author.Tests.{eq-eqb, ne-eqb, eqb-true, leb-true}
 use Rattle.wire.specs.Numbers.{Bytes, halfAt, wordAt, bytesAt, put}
 use Rattle.wire.proofs.NumberLaws.{length-part}
-use Rattle.wire.proofs.PutLaws.{put-put}
+use Rattle.wire.proofs.PutLaws.{put-put, put-sets}
 use Rattle.record.specs.Record.{withOpened, withUnlocked, withSending, withReading, withOutput, withPower, withStep, withMode, withOnOff, withInputs, withInterval, withFilter, withName, withFlags, withTries, withSettings, withOutputs, withModel, withPending}
 use Rattle.record.specs.Limits.{beforeZero}
 use Rattle.record.specs.Layout.{pendingRoom, atFlags, atTries, atPower, atStep, atMode, atOnOff, atInputs, atOutputs, atInterval, atFilter, atName, atModel, atPending}
@@ -113,10 +113,6 @@ mask-is (suc k) l h =
     let most = below-each 4 (λ k. leb (1 * 2 ^ (suc k - 1) % 256) 8) refl k h in
     (eqb-true (1 * 2 ^ (suc k - 1) % 256) (2 ^ (suc k - 1)) same, leb-true (1 * 2 ^ (suc k - 1) % 256) 8 most)
 
-put-is : (d : List ℕ) (at : ℕ) (s : List ℕ) → at + length s ≤ length d → put d at s ≡ sets d at s
-unfolding put
-put-is d at s h = sym (append-assoc (take at d) s (drop (at + length s) d)) ∙ sym (sets-eq s d at h)
-
 -- a part and then zeros up to the end of its room
 pub put-part : (d : List ℕ) (at end : ℕ) (p : List ℕ) → at + length p ≤ end → end ≤ length d
     → put (put d at p) (at + length p) (replicate (end - (at + length p)) 0) ≡ sets d at (bytesAt (end - at) p 0)
@@ -124,4 +120,4 @@ put-part d at end p h k =
     let rest : end - (at + length p) ≡ end - at - length p = omega arith in
     let room : at + length (bytesAt (end - at) p 0) ≤ length d = rw (length-part (end - at) p 0) (omega arith) in
     put-put d at p (replicate (end - (at + length p)) 0) (omega arith)
-    ∙ rw (rest, ← padded (end - at) p (omega arith)) (put-is d at (bytesAt (end - at) p 0) room)
+    ∙ rw (rest, ← padded (end - at) p (omega arith)) (put-sets d at (bytesAt (end - at) p 0) room)

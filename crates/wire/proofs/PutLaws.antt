@@ -1,12 +1,12 @@
--- Writing into a buffer: nothing, one byte more, a part behind a part.
+-- Writing into a buffer: nothing, one byte more, a part behind a part, single stores.
 use Prim.Native.Nat.{ℕ, zero, suc, _+_, _-_, _≤_, _<_}
 use mathlib.Core.Path.{_≡_, refl, sym, ap, _∙_}
 use mathlib.Core.List.{List, [], _∷_, _++_, append-assoc}
 use native.Mathlib.Nat.{zero-add, add-zero, add-assoc}
-use native.Mathlib.Numerals.{add-one}
+use native.Mathlib.Numerals.{add-one, towards-suc}
 use native.Mathlib.Omega.{arith}
 use lib.ListN.{length, getD, take, drop, set, replicate, length-append, length-drop, length-replicate, take-append-drop}
-use lib.Seq.{drop-cons, take-suc, take-at, drop-append-add, drop-drop, set-at, length-take-le}
+use lib.Seq.{sets, sets-eq, drop-cons, take-suc, take-at, take-set-lt, drop-set-lt, drop-append-add, drop-drop, set-at, set-append-left, length-take-le}
 use Rattle.wire.specs.Numbers.{put}
 
 pub put-nil : (d : List ℕ) (at : ℕ) → put d at [] ≡ d
@@ -60,3 +60,28 @@ put-zeros d at i h =
     let z : List ℕ = replicate i 0 in
     let n : length z ≡ i = length-replicate i 0 in
     rw (add-one i, ← zeros-more i) (ap (λ (j : ℕ). set (put d at (replicate i 0)) (at + j) 0) (sym n) ∙ put-byte d at (replicate i 0) 0 (omega arith))
+
+-- ---- single stores
+
+pub put-sets : (d : List ℕ) (at : ℕ) (s : List ℕ) → at + length s ≤ length d → put d at s ≡ sets d at s
+unfolding put
+put-sets d at s h = sym (append-assoc (take at d) s (drop (at + length s) d)) ∙ sym (sets-eq s d at h)
+
+pub put-one : (d : List ℕ) (at a : ℕ) → at < length d → set d at a ≡ put d at (a ∷ [])
+put-one d at a h = sym (put-sets d at (a ∷ []) (omega arith))
+
+pub put-two : (d : List ℕ) (at a b : ℕ) → at + 2 ≤ length d → set (set d at a) (at + 1) b ≡ put d at (a ∷ b ∷ [])
+put-two d at a b h = simp towards-suc (sym (put-sets d at (a ∷ b ∷ []) (omega arith)))
+
+pub put-three : (d : List ℕ) (at a b c : ℕ) → at + 3 ≤ length d → set (set (set d at a) (at + 1) b) (at + 2) c ≡ put d at (a ∷ b ∷ c ∷ [])
+put-three d at a b c h = simp towards-suc (sym (put-sets d at (a ∷ b ∷ c ∷ []) (omega arith)))
+
+pub put-four : (d : List ℕ) (at a b c e : ℕ) → at + 4 ≤ length d → set (set (set (set d at a) (at + 1) b) (at + 2) c) (at + 3) e ≡ put d at (a ∷ b ∷ c ∷ e ∷ [])
+put-four d at a b c e h = simp towards-suc (sym (put-sets d at (a ∷ b ∷ c ∷ e ∷ []) (omega arith)))
+
+-- a store in front of a part may as well come first
+pub put-behind : (d : List ℕ) (at : ℕ) (s : List ℕ) (i v : ℕ) → i < at → at ≤ length d → set (put d at s) i v ≡ put (set d i v) at s
+unfolding put
+put-behind d at s i v l h =
+    let n : i < length (take at d) = rw (length-take-le at d h) l in
+    rw (take-set-lt at d i v l, drop-set-lt (at + length s) d i v (omega arith)) (set-append-left (take at d) (s ++ drop (at + length s) d) i v n)

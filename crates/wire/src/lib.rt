@@ -2,6 +2,7 @@
 pub mod buffer;
 pub mod hunt;
 pub mod numbers;
+pub mod reply;
 
 // What a range says of a value.
 pub enum Range {

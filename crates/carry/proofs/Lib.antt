@@ -1,0 +1,3 @@
+pub mod Carry
+pub mod Data
+pub mod Acted
