@@ -42,7 +42,7 @@ good-sound s b e = record { fit = in-range s b (good-well s e); same = sym (writ
 
 -- ---- an outcome left
 
-left : (z w : Outcome) → z ≡ w → (a : Answer) (kept output : List ℕ) → a ≡ w .answer → kept ≡ w .kept → output ≡ w .output → Leaves z a kept output
+pub left : (z w : Outcome) → z ≡ w → (a : Answer) (kept output : List ℕ) → a ≡ w .answer → kept ≡ w .kept → output ≡ w .output → Leaves z a kept output
 left z w e a kept output p q r = record { answered = p ∙ sym (ap (λ (x : Outcome). x .answer) e); keeps = q ∙ sym (ap (λ (x : Outcome). x .kept) e); puts = r ∙ sym (ap (λ (x : Outcome). x .output) e) }
 
 module _ (s : List ℕ) (a : Answer) where

@@ -7,3 +7,5 @@ pub mod Ends
 pub mod SofarLaws
 pub mod GoingLaws
 pub mod ServeLaws
+pub mod JoinLaws
+pub mod BytesEnds

@@ -1,5 +1,5 @@
 -- What the hunting code has done so far: with what is left it gives the whole.
-use Prim.Native.Nat.{ℕ, _+_, _*_, _/_, _≤_}
+use Prim.Native.Nat.{ℕ, _+_, _-_, _*_, _/_, _≤_}
 use mathlib.Core.Path.{_≡_}
 use mathlib.Core.Logic.{_⊎_}
 use mathlib.Core.List.{List, _++_}
@@ -9,9 +9,9 @@ use Rattle.wire.specs.Frames.{look, Wait}
 use Rattle.wire.specs.Serial.{serial}
 use Rattle.wire.specs.Replies.{Reply, written}
 use Rattle.wire.specs.Run.{Hunted, hunt, ahead}
-use Rattle.record.specs.Record.{Record}
+use Rattle.record.specs.Record.{Record, withPending}
 use Rattle.record.specs.Layout.{bytesOf}
-use Rattle.record.specs.Place.{Holds}
+use Rattle.record.specs.Place.{Holds, Turns}
 use Rattle.board.specs.Hunt.{huntFrom, huntOf, recordAfter}
 use Rattle.board.specs.declared.Progress.{Progress}
 
@@ -39,6 +39,16 @@ pub record Going (r : Record) (l before : List ℕ) (start at skipped wrote : �
 pub record Hunts (r : Record) (l before : List ℕ) (until start : ℕ) (p : Progress) (kept out : List ℕ) : Type 0 where
   pub going : Going r l before start (p .at) (p .skipped) (p .wrote) kept out
   pub stops : (until ≤ p .at) ⊎ (look serial (drop (p .at) l) ≡ Wait)
+
+-- what the hunt through all of a stream leaves, with what waits as the pending bytes
+pub record Rests (r : Record) (l before : List ℕ) (start : ℕ) (p : Progress) (kept out : List ℕ) : Type 0 where
+  pub mid : List ℕ
+  pub hunts : Hunts r l before (length l) start p mid out
+  pub turns : Turns mid kept (λ z. withPending z (drop (p .at) l))
+
+-- the first n bytes of a buffer are the pending bytes and as much of the input as a candidate that starts in them can reach
+abbrev pub Joins : List ℕ → List ℕ → ℕ → List ℕ → Type 0
+Joins pending input n head = (n ≡ length pending + (length input - (length input - 19))) × (take n head ≡ pending ++ take (length input - (length input - 19)) input)
 
 -- what a bytes call that passed its checks leaves
 pub record Serves (r : Record) (input before : List ℕ) (p : Progress) (kept out : List ℕ) : Type 0 where

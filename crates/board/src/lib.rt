@@ -3,7 +3,8 @@ pub mod serve;
 
 ghost use mathlib.Core.Path.{_≡_};
 ghost use mathlib.Core.List.{[]};
-ghost use Rattle.board.specs.Calls.{zeroes, factoryCall, powerOnCall, Leaves};
+ghost use Rattle.board.specs.Calls.{zeroes, factoryCall, powerOnCall, bytesCall, Leaves};
+use crate::serve::serve;
 use record::Form;
 use record::check::form_of;
 use store::fresh::switch_on;
@@ -71,4 +72,26 @@ pub extern "C" fn board_power_on(rec: &mut [u8]) -> Answer
     };
     switch_on(rec);
     ended(Ending::Done)
+}
+
+#[no_mangle]
+pub extern "C" fn board_bytes(rec: &mut [u8], input: &[u8], out: &mut [u8]) -> Answer
+    ensures { λ a. ⌜ Leaves (bytesCall (now (rec .entry)) (now (input .entry)) (now (out .entry))) a (now (rec .exit)) (now (out .exit)) ⌝ }
+{
+    let Form::Good = form_of(rec) else {
+        return ended(Ending::BadRecord);
+    };
+    if 4096 < input.len() {
+        return ended(Ending::BadLength);
+    }
+    let held = rec[56] as usize;
+    if out.len() < 19 * ((held + input.len()) / 4) {
+        return ended(Ending::NoRoom);
+    }
+    let p = serve(rec, input, out);
+    Answer {
+        result: 0,
+        written: p.wrote as u32,
+        skipped: p.skipped as u32,
+    }
 }

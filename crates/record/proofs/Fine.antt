@@ -21,7 +21,7 @@ use Rattle.record.specs.declared.Form.the-variants.{Good, Bad}
 use Rattle.record.proofs.Parts.{behind-is, cut-le}
 use Rattle.record.proofs.Scan.{part}
 
-drop-take : (a b : ℕ) (l : List ℕ) → drop a (take b l) ≡ take (b - a) (drop a l)
+pub drop-take : (a b : ℕ) (l : List ℕ) → drop a (take b l) ≡ take (b - a) (drop a l)
 drop-take zero b l = rw sub-zero refl
 drop-take (suc a) zero l = rw (zero-sub (suc a)) refl
 drop-take (suc a) (suc b) [] = sym (take-nil (suc b - suc a))

@@ -1,0 +1,66 @@
+-- Each way that the bytes call ends, as its outcome.
+use Prim.Native.Nat.{ℕ, _+_, _*_, _/_, _≤_, _<_}
+use mathlib.Core.Path.{_≡_, refl, sym, ap, _∙_}
+use mathlib.Core.List.{List, _++_}
+use native.Mathlib.Omega.{arith}
+use lib.ListN.{length, getD, length-append}
+use lib.Dec.{ltb}
+use borrow.Author.Tests.{lt-ltb, le-ltb}
+use Rattle.wire.specs.Numbers.{Bytes, put}
+use Rattle.wire.specs.Frames.{cut}
+use Rattle.wire.specs.Serial.{serial}
+use Rattle.wire.specs.Replies.{written}
+use Rattle.wire.specs.Run.{hunt}
+use Rattle.wire.proofs.CutLaws.{sizes, conserved}
+use Rattle.wire.proofs.SerialLaws.{pending-short}
+use Rattle.record.specs.Record.{Record}
+use Rattle.record.specs.Layout.{bytesOf, recordOf}
+use Rattle.record.specs.Form.{InRange, formOf}
+use Rattle.record.specs.Place.{Sound}
+use Rattle.record.specs.declared.Form.the-variants.{Good, Bad}
+use Rattle.board.specs.Hunt.{huntOf, recordAfter}
+use Rattle.board.specs.Progress.{Serves}
+use Rattle.board.specs.Calls.{Outcome, zeroes, refused, done, served, bytesCall, Leaves, roomFor}
+use Rattle.board.specs.declared.Answer.{Answer}
+use Rattle.board.specs.declared.Progress.{Progress}
+use Rattle.board.specs.declared.Ending.the-variants.{BadRecord, BadLength, NoRoom}
+use Rattle.board.proofs.Unfolded.{bytes-by}
+use Rattle.board.proofs.Ends.{left, good-sound}
+use Rattle.board.proofs.JoinLaws.{held-is}
+use Rattle.board.proofs.Room.{room-enough}
+
+-- the counts of a call fit: no more written than room was asked for, no more skipped than was there
+skipped-most : (r : Record) (input : List ℕ) → huntOf r input .skipped ≤ length (r .pending) + length input
+unfolding huntOf hunt
+skipped-most r input = omega (arith, conserved serial (r .pending ++ input), length-append (r .pending) input)
+
+pub served-small : (s input o : List ℕ) (p : Progress) (t out : List ℕ) → Sound s → Bytes input → length input ≤ 4096 → Serves (recordOf s) input o p t out → (p .wrote ≤ 19532) × (p .skipped ≤ 4114)
+served-small s input o p t out sound b h f =
+    let few = pending-short (recordOf s .pending) (sound .fit .pending) in
+    (omega (arith, few, f .wrote-is, room-enough (recordOf s) input b (sound .fit)), omega (arith, few, f .skipped-is, skipped-most (recordOf s) input))
+
+module _ (s input o : List ℕ) (a : Answer) where
+  pub bytes-bad-record : formOf s ≡ Bad → a ≡ zeroes BadRecord → Leaves (bytesCall s input o) a s o
+  bytes-bad-record g e = left (bytesCall s input o) (refused BadRecord s o) (bytes-by s input o ∙ rw g refl) a s o e refl refl
+
+  module _ (g : formOf s ≡ Good) where
+    pub bytes-bad-length : 4096 < length input → a ≡ zeroes BadLength → Leaves (bytesCall s input o) a s o
+    bytes-bad-length h e = left (bytesCall s input o) (refused BadLength s o) (bytes-by s input o ∙ rw (g, lt-ltb 4096 (length input) h) refl) a s o e refl refl
+
+    module _ (bytes : Bytes s) (h : length input ≤ 4096) where
+      pub room-is : getD s 56 0 ≡ length (recordOf s .pending)
+      room-is = held-is s (good-sound s bytes g)
+
+      pub bytes-no-room : length o < 19 * ((getD s 56 0 + length input) / 4) → a ≡ zeroes NoRoom → Leaves (bytesCall s input o) a s o
+      bytes-no-room k e =
+          let k′ : length o < roomFor (length (recordOf s .pending) + length input) = rw room-is at k in
+          left (bytesCall s input o) (refused NoRoom s o)
+          (bytes-by s input o ∙ rw (g, le-ltb 4096 (length input) h, lt-ltb (length o) (roomFor (length (recordOf s .pending) + length input)) k′) refl) a s o e refl refl
+
+      pub bytes-done : 19 * ((getD s 56 0 + length input) / 4) ≤ length o → (p : Progress) (t out : List ℕ) → Serves (recordOf s) input o p t out
+          → a ≡ record { result = 0; written = p .wrote; skipped = p .skipped } → Leaves (bytesCall s input o) a t out
+      bytes-done k p t out f e =
+          let k′ : roomFor (length (recordOf s .pending) + length input) ≤ length o = rw room-is at k in
+          left (bytesCall s input o) (served (huntOf (recordOf s) input) o)
+          (bytes-by s input o ∙ rw (g, le-ltb 4096 (length input) h, le-ltb (length o) (roomFor (length (recordOf s .pending) + length input)) k′) refl) a t out
+          (e ∙ rw (f .wrote-is, f .skipped-is) refl) (f .record-is) (f .bytes)
