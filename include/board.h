@@ -1,0 +1,66 @@
+/* The radio board of a dental imaging chair: four calls over a record that the caller keeps. */
+#ifndef BOARD_H
+#define BOARD_H
+
+#include <stddef.h>
+#include <stdint.h>
+
+#ifdef __cplusplus
+extern "C" {
+#endif
+
+/* Sizes in bytes: a record, the longest input, the most bytes pending, a sample, a measuring frame. */
+#define BOARD_RECORD_SIZE 123
+#define BOARD_INPUT_MOST 4096
+#define BOARD_PENDING_MOST 18
+#define BOARD_SAMPLE_SIZE 24
+#define BOARD_FRAME_SIZE 28
+
+/* The output that board_bytes asks for: 19 times the whole part of (pending + input) / 4. */
+#define BOARD_ROOM(pending, input_len) (19 * (((size_t)(pending) + (size_t)(input_len)) / 4))
+
+/* Enough for board_bytes with any record and any input. */
+#define BOARD_ROOM_MOST BOARD_ROOM(BOARD_PENDING_MOST, BOARD_INPUT_MOST)
+
+/* Results. The first that applies is returned. */
+enum board_result {
+    BOARD_DONE = 0,       /* done */
+    BOARD_BAD_RECORD = 1, /* record not 123 bytes or not well formed (factory: only the length) */
+    BOARD_BAD_LENGTH = 2, /* bytes: input over 4,096; samples: not 24 */
+    BOARD_NO_ROOM = 3,    /* bytes: output shorter than BOARD_ROOM; samples: than 28, also with sending off */
+    BOARD_NOT_FINITE = 4  /* samples: a sample is infinite or not a number */
+};
+
+/*
+ * What every call returns: a result, the bytes written to the output and the bytes that the hunt skipped.
+ * A refusal (any result but BOARD_DONE) has zero counts and has written to no buffer.
+ * Output behind the written bytes is unchanged.
+ */
+struct board_answer {
+    uint32_t result, written, skipped;
+};
+
+/*
+ * A caller must not lend buffers that overlap, nor a length that is not the buffer's.
+ * A null pointer is allowed with length 0.
+ */
+
+/* Writes a new record over any 123 bytes. */
+struct board_answer board_factory(uint8_t *record, size_t record_len);
+
+/* Closes configuration mode, locks, switches outputs off and sending on, drops pending bytes and pairs. */
+struct board_answer board_power_on(uint8_t *record, size_t record_len);
+
+/* Received bytes in, replies out; bytes of an unfinished frame wait in the record for the next call. */
+struct board_answer board_bytes(uint8_t *record, size_t record_len, const uint8_t *input, size_t input_len,
+                                uint8_t *output, size_t output_len);
+
+/* One reading of six channels in (32-bit floats, high byte first), a measuring frame out if sending is on. */
+struct board_answer board_samples(uint8_t *record, size_t record_len, const uint8_t *sample,
+                                  size_t sample_len, uint8_t *output, size_t output_len);
+
+#ifdef __cplusplus
+}
+#endif
+
+#endif

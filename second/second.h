@@ -1,0 +1,56 @@
+/* A radio board as four calls over a lent record of 123 bytes. */
+#ifndef SECOND_H
+#define SECOND_H
+
+#include <stddef.h>
+#include <stdint.h>
+
+#ifdef __cplusplus
+extern "C" {
+#endif
+
+/*
+ * The answer of every call.
+ *
+ * result   0 done
+ *          1 record of a wrong length or not well formed (factory looks at the length only)
+ *          2 input longer than 4096 bytes, or sample not 24 bytes
+ *          3 not enough room in the output
+ *          4 a sample that is infinite or not a number
+ * written  bytes put at the start of the output
+ * skipped  bytes that the hunt passed over (bytes call only, otherwise 0)
+ *
+ * If several refusals apply, the lowest number is the answer. Any result other than 0 comes with both counts
+ * 0 and with every buffer as it was. Output bytes from `written` on are never touched.
+ *
+ * The buffers of one call must not overlap. A pointer may be null where its length is 0.
+ */
+struct second_answer {
+    uint32_t result, written, skipped;
+};
+
+/* Writes a new record over whatever the 123 bytes held. */
+struct second_answer second_factory(uint8_t *record, size_t record_len);
+
+/* Brings a record to its state after a power cycle: closed, locked, sending, nothing pending, no reading. */
+struct second_answer second_power_on(uint8_t *record, size_t record_len);
+
+/*
+ * Hunts for frames in the pending bytes followed by the input, carries each out and writes its reply.
+ * The output needs 19 bytes for every whole 4 bytes of pending and input together.
+ */
+struct second_answer second_bytes(uint8_t *record, size_t record_len, const uint8_t *input, size_t input_len,
+                                  uint8_t *output, size_t output_len);
+
+/*
+ * Takes one reading of six channels, each a float of 4 bytes with the high byte first.
+ * The output needs 28 bytes, even when sending is off and nothing is written.
+ */
+struct second_answer second_samples(uint8_t *record, size_t record_len, const uint8_t *sample,
+                                    size_t sample_len, uint8_t *output, size_t output_len);
+
+#ifdef __cplusplus
+}
+#endif
+
+#endif

@@ -1,0 +1,171 @@
+#include "both.h"
+
+#include "frames.h"
+#include "hex.h"
+#include "record.h"
+#include "tally.h"
+
+#include <signal.h>
+#include <stdio.h>
+#include <stdlib.h>
+#include <string.h>
+
+enum { GUARD = 32, FILLING = 0xC3 };
+
+/* A program's own copy of what is lent, each buffer between guard bytes. */
+struct lent {
+    uint8_t guard;
+    uint8_t record[GUARD + RECORD_ROOM + GUARD];
+    uint8_t input[GUARD + INPUT_ROOM + GUARD];
+    uint8_t output[GUARD + OUTPUT_ROOM + GUARD];
+    struct board_answer answer;
+};
+
+static struct lent lents[PROGRAMS];
+
+/* The case under way, for a program that crashes on it. */
+static const struct given *current;
+
+/* Without bytes the buffer gets the filling. */
+static uint8_t *lend(uint8_t *buffer, const uint8_t *bytes, size_t len, uint8_t guard) {
+    memset(buffer, guard, GUARD);
+    if (bytes == NULL)
+        memset(buffer + GUARD, FILLING, len);
+    else
+        memcpy(buffer + GUARD, bytes, len);
+    memset(buffer + GUARD + len, guard, GUARD);
+    return buffer + GUARD;
+}
+
+static bool guarded(const uint8_t *buffer, size_t len, uint8_t guard) {
+    for (size_t i = 0; i < GUARD; i++) {
+        if (buffer[i] != guard || buffer[GUARD + len + i] != guard)
+            return false;
+    }
+    return true;
+}
+
+static void run(const struct program *program, const struct given *given, struct lent *lent) {
+    struct request request = {
+        .call = given->call,
+        .record = lend(lent->record, given->record, given->record_len, lent->guard),
+        .record_len = given->record_len,
+        .input = lend(lent->input, given->input, given->input_len, lent->guard),
+        .input_len = given->input_len,
+        .output = lend(lent->output, NULL, given->room, lent->guard),
+        .output_len = given->room,
+    };
+    if (given->null && given->record_len == 0)
+        request.record = NULL;
+    if (given->null && given->input_len == 0)
+        request.input = NULL;
+    if (given->null && given->room == 0)
+        request.output = NULL;
+    lent->answer = program->run(&request);
+}
+
+static bool all_guarded(const struct lent *lent, const struct given *given) {
+    return guarded(lent->record, given->record_len, lent->guard) &&
+           guarded(lent->input, given->input_len, lent->guard) &&
+           guarded(lent->output, given->room, lent->guard);
+}
+
+static bool input_kept(const struct lent *lent, const struct given *given) {
+    return given->input_len == 0 || memcmp(lent->input + GUARD, given->input, given->input_len) == 0;
+}
+
+static bool same_answer(struct board_answer a, struct board_answer b) {
+    return a.result == b.result && a.written == b.written && a.skipped == b.skipped;
+}
+
+static bool same_bytes(const uint8_t *a, const uint8_t *b, size_t len) {
+    return memcmp(a + GUARD, b + GUARD, len) == 0;
+}
+
+static void show_word(const uint8_t *bytes, size_t len, bool null) {
+    printf(" ");
+    if (len == 0)
+        printf("%s", null ? "null" : "-");
+    else
+        hex_print(bytes, len, "");
+}
+
+static void show_case(const struct given *given) {
+    printf("differs: --replay %s", call_names[given->call]);
+    show_word(given->record, given->record_len, given->null);
+    show_word(given->input, given->input_len, given->null);
+    if (given->room == 0)
+        show_word(NULL, 0, given->null);
+    else
+        printf(" %zu", given->room);
+    printf("\n");
+}
+
+static void crashed(int number) {
+    printf("signal %d\n", number);
+    show_case(current);
+    printf("%lu passed, %lu failed\n", tally.passed, tally.failed + 1);
+    fflush(stdout);
+    _Exit(1);
+}
+
+void both_catch_crashes(void) {
+    static const int numbers[] = {SIGSEGV, SIGILL, SIGFPE, SIGABRT};
+    for (size_t i = 0; i < sizeof numbers / sizeof *numbers; i++)
+        signal(numbers[i], crashed);
+}
+
+static void show_left(const struct program *program, const struct lent *lent, const struct given *given) {
+    printf("  %s: result %u, written %u, skipped %u, guards %s, input %s\n    record", program->name,
+           (unsigned)lent->answer.result, (unsigned)lent->answer.written, (unsigned)lent->answer.skipped,
+           all_guarded(lent, given) ? "kept" : "broken", input_kept(lent, given) ? "kept" : "changed");
+    show_word(lent->record + GUARD, given->record_len, false);
+    printf("\n    output");
+    show_word(lent->output + GUARD, given->room, false);
+    printf("\n");
+}
+
+struct board_answer both(const struct given *given) {
+    static uint8_t turn;
+    bool good = true;
+    turn ^= 1;
+    current = given;
+    for (unsigned i = 0; i < PROGRAMS; i++) {
+        /* Guards that differ, so that reading beyond a buffer shows too. */
+        lents[i].guard = (i ^ turn) == 0 ? 0xAA : 0x85;
+        run(&programs[i], given, &lents[i]);
+        good = good && all_guarded(&lents[i], given) && input_kept(&lents[i], given);
+    }
+    const struct lent *proved = &lents[PROVED], *second = &lents[SECOND];
+    good = good && same_answer(proved->answer, second->answer) &&
+           same_bytes(proved->record, second->record, given->record_len) &&
+           same_bytes(proved->output, second->output, given->room);
+    if (tally_case(good)) {
+        show_case(given);
+        for (unsigned i = 0; i < PROGRAMS; i++)
+            show_left(&programs[i], &lents[i], given);
+    }
+    if (given->record_len > 0)
+        memcpy(given->record, second->record + GUARD, given->record_len);
+    return second->answer;
+}
+
+struct board_answer both_bytes(uint8_t *record, const uint8_t *input, size_t len) {
+    const size_t room = BOARD_ROOM(record[AT_PENDING], len);
+    return both(&(struct given){CALL_BYTES, record, RECORD_SIZE, input, len, room, false});
+}
+
+struct board_answer both_samples(uint8_t *record, const uint8_t *sample) {
+    return both(&(struct given){CALL_SAMPLES, record, RECORD_SIZE, sample, BOARD_SAMPLE_SIZE,
+                                BOARD_FRAME_SIZE, false});
+}
+
+struct board_answer both_power_on(uint8_t *record) {
+    return both(&(struct given){CALL_POWER_ON, record, RECORD_SIZE, NULL, 0, 0, false});
+}
+
+struct board_answer both_frame(uint8_t *record, uint8_t kind, uint8_t number, const uint8_t *parameters,
+                               size_t count) {
+    uint8_t frame[FRAME_MOST];
+    return both_bytes(record, frame, put_frame(frame, kind, number, parameters, count));
+}

@@ -1,0 +1,100 @@
+/* Gives the proved library and the second program the same calls and compares all that they leave. */
+#include "both.h"
+#include "hex.h"
+#include "parts.h"
+#include "tally.h"
+
+#include <stdio.h>
+#include <stdlib.h>
+#include <string.h>
+
+static const struct part {
+    const char *name;
+    void (*run)(const struct settings *settings);
+    unsigned long least;
+} parts[] = {
+    {"tables", run_tables, 210},       {"commands", run_commands, 1192960}, {"limits", run_limits, 11137},
+    {"changes", run_changes, 1983786}, {"readings", run_readings, 57600},   {"streams", run_streams, 200000},
+};
+
+static int usage(void) {
+    printf("usage: compare [--seed N] [--calls N] TABLE...\n"
+           "       compare --replay CALL RECORD INPUT ROOM\n"
+           "RECORD and INPUT are hex, - if empty, null if a null pointer; ROOM is a number, - or null\n");
+    return 2;
+}
+
+static bool read_number(const char *text, unsigned long *number) {
+    char *end;
+    *number = strtoul(text, &end, 0);
+    return *text != '\0' && *end == '\0';
+}
+
+/* Reads a buffer of a replay line; an empty one may say that its pointer was null. */
+static bool read_buffer(const char *word, uint8_t *bytes, size_t room, size_t *len, bool *null) {
+    *len = 0;
+    if (strcmp(word, "null") == 0)
+        *null = true;
+    else if (strcmp(word, "-") != 0)
+        return hex_read(word, bytes, room, len);
+    return true;
+}
+
+/* The output has a length only, but may be a null pointer too. */
+static bool read_room(const char *word, size_t *room, bool *null) {
+    unsigned long number;
+    uint8_t none;
+    if (!read_number(word, &number))
+        return read_buffer(word, &none, 0, room, null);
+    *room = number;
+    return number <= OUTPUT_ROOM;
+}
+
+static int finish(void) {
+    printf("%lu passed, %lu failed\n", tally.passed, tally.failed);
+    return tally.failed == 0 ? 0 : 1;
+}
+
+static int replay(char **words) {
+    static uint8_t record[RECORD_ROOM], input[INPUT_ROOM];
+    struct given given = {.record = record, .input = input};
+    if (!call_named(words[0], &given.call) ||
+        !read_buffer(words[1], record, sizeof record, &given.record_len, &given.null) ||
+        !read_buffer(words[2], input, sizeof input, &given.input_len, &given.null) ||
+        !read_room(words[3], &given.room, &given.null))
+        return usage();
+    const struct board_answer answer = both(&given);
+    printf("second program: result %u, written %u, skipped %u\n", (unsigned)answer.result,
+           (unsigned)answer.written, (unsigned)answer.skipped);
+    return finish();
+}
+
+/* Fewer cases than the part promises are a failure. */
+static void run_part(const struct part *part, const struct settings *settings) {
+    const unsigned long before = tally.passed + tally.failed;
+    part->run(settings);
+    const unsigned long cases = tally.passed + tally.failed - before;
+    printf("%s: %lu cases\n", part->name, cases);
+    if (cases < part->least && tally_case(false))
+        printf("%s: fewer cases than the %lu stated\n", part->name, part->least);
+}
+
+int main(int argc, char **argv) {
+    unsigned long seed = 121, calls = 500000;
+    int at = 1;
+    both_catch_crashes();
+    if (argc == 6 && strcmp(argv[1], "--replay") == 0)
+        return replay(argv + 2);
+    for (; at + 1 < argc && argv[at][0] == '-'; at += 2) {
+        unsigned long *number = strcmp(argv[at], "--seed") == 0 ? &seed : &calls;
+        if ((number == &calls && strcmp(argv[at], "--calls") != 0) || !read_number(argv[at + 1], number))
+            return usage();
+    }
+    if (at == argc)
+        return usage();
+    const struct settings settings = {seed, calls, argc - at, argv + at};
+    printf("seed %lu\n", seed);
+    for (size_t i = 0; i < sizeof parts / sizeof *parts; i++)
+        run_part(&parts[i], &settings);
+    return finish();
+}

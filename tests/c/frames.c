@@ -1,0 +1,25 @@
+#include "frames.h"
+
+#include <string.h>
+
+size_t put_frame(uint8_t *to, uint8_t kind, uint8_t number, const uint8_t *parameters, size_t count) {
+    to[0] = 0xAA;
+    to[1] = (uint8_t)(kind | count);
+    to[2] = number;
+    if (count > 0)
+        memcpy(to + 3, parameters, count);
+    to[3 + count] = 0x85;
+    return 4 + count;
+}
+
+const struct command commands[COMMANDS] = {
+    {BT121, 0xE0, 0, 0},     {BT121, 0xE1, 0, 0},      {BT121, 0xE2, 0, 0},     {BT121, 0xE3, 2, 2},
+    {BT121, 0xE4, 0, 0},     {BT121, 0xE5, 1, 1},      {BT121, 0xE6, 0, 0},     {BT121, 0xE7, 1, 1},
+    {BT121, 0xE8, 0, 0},     {BT121, 0xE9, 0, 15},     {BT121, 0xEA, 0, 0},     {BT121, 0xEB, 2, 2},
+    {BT121, 0xEC, 0, 1},     {BT121, 0xED, 0, 0},      {BT121, 0xEE, 1, 1},     {BT121, 0xEF, 0, 0},
+    {BT121, 0xF0, 1, 1},     {BT121, 0xF1, 2, 2},      {BT121, 0xF2, 1, 1},     {BT121, 0xF3, 0, 0},
+    {AMPLIFIER, 0x17, 0, 2}, {AMPLIFIER, 0x18, 0, 6},  {AMPLIFIER, 0x19, 4, 4}, {AMPLIFIER, 0x1A, 0, 0},
+    {AMPLIFIER, 0x1B, 0, 0}, {AMPLIFIER, 0x1C, 1, 15}, {AMPLIFIER, 0x23, 0, 0}, {AMPLIFIER, 0x24, 0, 0},
+    {AMPLIFIER, 0x50, 0, 6}, {AMPLIFIER, 0x51, 0, 0},  {AMPLIFIER, 0x52, 4, 4}, {AMPLIFIER, 0x53, 1, 1},
+    {AMPLIFIER, 0x54, 0, 0}, {AMPLIFIER, 0x55, 0, 1},
+};

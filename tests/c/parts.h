@@ -1,0 +1,22 @@
+/* The parts of the comparison, each in the file of its name. */
+#ifndef PARTS_H
+#define PARTS_H
+
+#include <stdint.h>
+
+/* What the command line says. */
+struct settings {
+    uint64_t seed;
+    unsigned long calls;
+    int tables;
+    char **table;
+};
+
+void run_tables(const struct settings *settings);
+void run_commands(const struct settings *settings);
+void run_limits(const struct settings *settings);
+void run_changes(const struct settings *settings);
+void run_readings(const struct settings *settings);
+void run_streams(const struct settings *settings);
+
+#endif
