@@ -4,6 +4,7 @@ pub mod Room
 pub mod Exit
 pub mod Empty
 pub mod Ends
+pub mod SampleEnds
 pub mod SofarLaws
 pub mod GoingLaws
 pub mod ServeLaws

@@ -9,9 +9,10 @@ use Rattle.peak.specs.Pairs.{allFinite}
 use Rattle.record.specs.Layout.{recordSize, channels, recordOf}
 use Rattle.record.specs.Form.{formOf}
 use Rattle.record.specs.Births.{factory, poweredOn}
+use Rattle.record.specs.Reading.{readingOf}
 use Rattle.board.specs.Hunt.{huntOf}
 use Rattle.board.specs.declared.Ending.the-variants.{BadRecord, BadLength, NoRoom, NotFinite}
-use Rattle.board.specs.Calls.{refused, done, byForm, factoryCall, powerOnCall, inputMost, roomFor, served, bytesCall, sampleSize, frameSize, measured, readingOf, samplesCall}
+use Rattle.board.specs.Calls.{refused, done, byForm, factoryCall, powerOnCall, inputMost, roomFor, served, bytesCall, sampleSize, frameSize, measured, samplesCall}
 
 pub factory-by : (s : List ℕ) → factoryCall s ≡ cond (eqb (length s) recordSize) (done factory [] 0 []) (refused BadRecord s [])
 unfolding factoryCall

@@ -8,13 +8,14 @@ use lib.Dec.{ltb, eqb}
 use Rattle.wire.specs.Numbers.{bytesAt, put}
 use Rattle.wire.specs.Replies.{Reply, written}
 use Rattle.wire.specs.Run.{Hunted}
-use Rattle.peak.specs.Pairs.{seenAll, allFinite}
-use Rattle.record.specs.Record.{Record, withFlags, withPairs, withReading}
+use Rattle.peak.specs.Pairs.{allFinite}
+use Rattle.record.specs.Record.{Record}
 use Rattle.record.specs.Layout.{recordSize, channels, bytesOf, recordOf}
 use Rattle.record.specs.Form.{wellFormed, formOf}
 use Rattle.record.specs.declared.Form.{Form}
 use Rattle.record.specs.declared.Form.the-variants.{Good, Bad}
 use Rattle.record.specs.Births.{factory, poweredOn}
+use Rattle.record.specs.Reading.{readingOf}
 use Rattle.board.specs.Hunt.{huntOf, recordAfter}
 use Rattle.board.specs.declared.Ending.{Ending}
 use Rattle.board.specs.declared.Ending.the-variants.{Done, BadRecord, BadLength, NoRoom, NotFinite}
@@ -93,10 +94,6 @@ frameSize = 4 + sampleSize
 -- a measuring frame of n channels. "If sending is on, the output gets AA 15 B0, the 24 bytes, 85 (28 bytes); else nothing."
 abbrev pub measured : ℕ → List ℕ → List ℕ
 measured n sample = 0xAA ∷ (0x0F + n) ∷ 0xB0 ∷ bytesAt (4 * n) sample 0 ++ (0x85 ∷ [])
-
-unfoldable pub readingOf : Record → List ℕ → Record
-unfolding withFlags withPairs seenAll
-readingOf r sample = withPairs (withFlags r (withReading (r .flags) true)) (seenAll (r .flags .reading) (r .pairs) sample 0)
 
 unfoldable pub samplesCall : List ℕ → List ℕ → List ℕ → Outcome
 unfolding readingOf allFinite bytesOf recordOf put wellFormed

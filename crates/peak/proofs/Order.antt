@@ -3,15 +3,14 @@ use mathlib.Core.Path.{_≡_, refl, sym, ap, _∙_, subst}
 use mathlib.Core.Logic.{_⊎_, inl, inr}
 use mathlib.Core.Bool.{Bool, true, false, not, cond, _&&_}
 use Prim.Native.Nat.{ℕ, zero, suc, _+_, _-_, _*_, _/_, _%_, _^_, _≤_, _<_}
-use native.Mathlib.Nat.{le-trans, le-of-eq, lt-of-le-of-lt, lt-of-lt-of-le, eq-or-lt-of-le, mul-comm, mul-assoc, mul-left-comm, mul-right-comm, mul-one, mul-le-mul-right, mul-le-mul-left, mul-lt-mul-of-pos-right, lt-of-mul-lt-mul-right, mul-pos, pow-succ', not-le-of-lt, mod-eq-of-lt, le-of-lt, zero-mul, add-mul, eq-zero-or-pos, le-of-mul-le-mul-right}
+use native.Mathlib.Nat.{le-trans, le-of-eq, lt-of-lt-of-le, eq-or-lt-of-le, mul-comm, mul-assoc, mul-right-comm, mul-le-mul-right, mul-le-mul-left, mul-lt-mul-of-pos-right, lt-of-mul-lt-mul-right, mul-pos, pow-succ', le-of-lt, zero-mul, add-mul, eq-zero-or-pos, le-of-mul-le-mul-right}
 use native.Mathlib.Omega.{arith}
 use borrow.Author.Tests.{lt-ltb, le-ltb, ltb-true, ltb-false, lt-leb, le-leb, ne-eqb}
 use lib.Dec.{T, leb, ltb, eqb}
 use lib.Pow.{pow-pos, pow-mono}
-use lib.Ieee.{Float, nan, inf, fin, binary32, up, down, odd, ofFields, ofBits, toBits, nanBits, isNan, fits, lt, below, ne}
-use lib.Ieee.Compare.{differs-from-itself}
-use lib.Ieee.Fits.{up-pos, down-pos}
-use lib.Ieee.Bits.{nanBits-is, nanBits-above, cond-no, toBits-ofBits, ofBits-toBits}
+use lib.Ieee.{Float, nan, inf, fin, binary32, up, down, odd, ofFields, ofBits, toBits, nanBits, isNan, lt, below}
+use lib.Ieee.Fits.{down-pos}
+use lib.Ieee.Bits.{nanBits-is, nanBits-above, toBits-ofBits}
 use lib.Ieee.Exact.{HasValue, odd-sign}
 use Rattle.peak.specs.Pairs.{finite, key, less, Pair, seen, pairFits}
 use Rattle.peak.specs.Floats.{bitsOf, floatOf, peakOf, seenFloat}
@@ -256,11 +255,10 @@ unfolding floatOf
 float-is n h = simp h
 
 pub bits-back : (n : ℕ) → n < 0x100000000 → finite n ≡ true → bitsOf (floatOf n) ≡ n
-unfolding bitsOf
-bits-back n b h =
-    ap bitsOf (float-is n h)
-    ∙ cond-no (isNan (ofBits binary32 n)) 0 (toBits binary32 (ofBits binary32 n)) (subst (λ (t : Bool). T (not t)) (nanBits-is binary32 n) (no-nan n h))
-    ∙ back n b h
+bits-back n b h = ap bitsOf (float-is n h) ∙ back n b h
+
+pub float-number : (n : ℕ) → finite n ≡ true → T (not (isNan (floatOf n)))
+float-number n h = rw (float-is n h, ← nanBits-is binary32 n) (no-nan n h)
 
 -- the order of two finite patterns' floats
 pub floats-less : (a b : ℕ) → a < 0x100000000 → b < 0x100000000 → finite a ≡ true → finite b ≡ true → lt (floatOf a) (floatOf b) ≡ less a b
@@ -274,17 +272,6 @@ cond-of false x y = refl
 pub seen-is : (p : Pair) (x : ℕ) → p .greatest < 0x100000000 → p .smallest < 0x100000000 → x < 0x100000000
     → finite (p .greatest) ≡ true → finite (p .smallest) ≡ true → finite x ≡ true → seenFloat (peakOf p) (floatOf x) ≡ peakOf (seen true p x)
 seen-is p x A B X a b f = simp (floats-less (p .greatest) x A X a f, floats-less x (p .smallest) X B f b, cond-of)
-
--- a float that differs from itself is a NaN, and no other does
-pub nan-if : (x : Float) → ne x x ≡ true → isNan x ≡ true
-unfolding isNan
-nan-if x h = ap isNan (differs-from-itself x (subst T (sym h) tt))
-
-pub nan-not : (x : Float) → ne x x ≡ false → isNan x ≡ false
-unfolding isNan ne
-nan-not nan h = h
-nan-not (inf s) h = refl
-nan-not (fin s m e) h = refl
 
 not-less : (a b : ℕ) → not (ltb a b) ≡ leb b a
 not-less a b = go (ltb a b) refl

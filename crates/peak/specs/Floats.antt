@@ -1,7 +1,7 @@
 -- The floats that patterns stand for: what the code works on. No promise of a call speaks of them.
 use Prim.Native.Nat.{ℕ}
 use mathlib.Core.Bool.{cond}
-use lib.Ieee.{Float, binary32, lt, isNan, ofBits, toBits}
+use lib.Ieee.{Float, binary32, lt, ofBits, toBits}
 use Rattle.peak.specs.Pairs.{finite, Pair}
 use Rattle.peak.specs.declared.Peak.{Peak}
 
@@ -9,9 +9,9 @@ use Rattle.peak.specs.declared.Peak.{Peak}
 unfoldable pub floatOf : ℕ → Float
 floatOf x = cond (finite x) (ofBits binary32 x) (ofBits binary32 0)
 
--- the pattern of a float, and 0 for one that is no number
-unfoldable pub bitsOf : Float → ℕ
-bitsOf f = cond (isNan f) 0 (toBits binary32 f)
+-- the pattern of a float that is a number
+abbrev pub bitsOf : Float → ℕ
+bitsOf f = toBits binary32 f
 
 -- the pair of floats of a pair of patterns
 abbrev pub peakOf : Pair → Peak

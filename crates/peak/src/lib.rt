@@ -1,6 +1,7 @@
 ghost use mathlib.Core.Path.{_≡_};
-ghost use mathlib.Core.Bool.{cond};
-ghost use lib.Ieee.{lt};
+ghost use mathlib.Core.Bool.{true, not, cond};
+ghost use lib.Dec.{T};
+ghost use lib.Ieee.{lt, isNan};
 ghost use Rattle.peak.specs.Pairs.{finite};
 ghost use Rattle.peak.specs.Floats.{floatOf, bitsOf, seenFloat};
 
@@ -27,13 +28,18 @@ pub fn float_of(x: u32) -> f32
     0.0
 }
 
-// The pattern of a float, 0 for one that is no number, so that no caller owes anything.
+// The float of a finite pattern, with no test.
+pub fn finite_float(x: u32) -> f32
+    requires { ⌜ finite x ≡ true ⌝ }
+    ensures { λ r. ⌜ r ≡ floatOf x ⌝ }
+{
+    f32::from_bits(x)
+}
+
 pub fn bits_of(f: f32) -> u32
+    requires { ⌜ T (not (isNan f)) ⌝ }
     ensures { λ r. ⌜ r ≡ bitsOf f ⌝ }
 {
-    if f != f {
-        return 0;
-    }
     f32::to_bits(f)
 }
 

@@ -3,6 +3,7 @@ pub mod Parts
 pub mod Facts
 pub mod RoundTrip
 pub mod Births
+pub mod Reading
 pub mod Bounds
 pub mod Lens
 pub mod Tests

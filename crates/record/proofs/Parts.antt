@@ -169,7 +169,7 @@ pairs-part (suc n) ps i (suc k) h =
     let next : 8 * suc k ≡ 8 + 8 * k = omega arith in
     rw (next, add-suc i k, ← suc-add i k) (part-drop 8 8 (pairsBytes (suc n) ps i) (8 * k) ∙ pairs-part n ps (suc i) k (le-of-suc-le-suc h))
 
-pairs-shift : (n : ℕ) (p : Pair) (ps : List Pair) (j : ℕ) → pairsBytes n (p ∷ ps) (suc j) ≡ pairsBytes n ps j
+pub pairs-shift : (n : ℕ) (p : Pair) (ps : List Pair) (j : ℕ) → pairsBytes n (p ∷ ps) (suc j) ≡ pairsBytes n ps j
 pairs-shift zero p ps j = refl
 pairs-shift (suc n) p ps j = ap (λ (l : List ℕ). pairBytes (getD ps j noPair) ++ l) (pairs-shift n p ps (suc j))
 

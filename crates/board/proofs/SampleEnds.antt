@@ -1,0 +1,48 @@
+-- Each way that samples ends, as its outcome.
+use Prim.Native.Nat.{ℕ, _≤_, _<_}
+use mathlib.Core.Path.{_≡_, refl, _∙_}
+use mathlib.Core.Bool.{true, false}
+use mathlib.Core.List.{List}
+use lib.ListN.{length}
+use borrow.Author.Tests.{eq-eqb, ne-eqb, lt-ltb, le-ltb}
+use Rattle.wire.specs.Numbers.{put}
+use Rattle.wire.proofs.PutLaws.{put-nil}
+use Rattle.peak.specs.Pairs.{allFinite}
+use Rattle.record.specs.Layout.{channels, bytesOf, recordOf}
+use Rattle.record.specs.Form.{formOf}
+use Rattle.record.specs.Reading.{readingOf}
+use Rattle.record.specs.declared.Form.the-variants.{Good, Bad}
+use Rattle.board.specs.declared.Answer.{Answer}
+use Rattle.board.specs.declared.Ending.the-variants.{Done, BadRecord, BadLength, NoRoom, NotFinite}
+use Rattle.board.specs.Calls.{zeroes, refused, done, sampleSize, frameSize, measured, samplesCall, Leaves}
+use Rattle.board.proofs.Ends.{left}
+use Rattle.board.proofs.Unfolded.{samples-by}
+
+module _ (s sample o : List ℕ) (a : Answer) where
+  pub bad-record : formOf s ≡ Bad → a ≡ zeroes BadRecord → Leaves (samplesCall s sample o) a s o
+  bad-record h e = left (samplesCall s sample o) (refused BadRecord s o) (samples-by s sample o ∙ rw h refl) a s o e refl refl
+
+  module _ (good : formOf s ≡ Good) where
+    pub bad-length : (length sample ≡ sampleSize → ⊥) → a ≡ zeroes BadLength → Leaves (samplesCall s sample o) a s o
+    bad-length h e = left (samplesCall s sample o) (refused BadLength s o) (samples-by s sample o ∙ rw (good, ne-eqb (length sample) sampleSize h) refl) a s o e refl refl
+
+    module _ (long : length sample ≡ sampleSize) where
+      pub no-room : length o < frameSize → a ≡ zeroes NoRoom → Leaves (samplesCall s sample o) a s o
+      no-room h e = left (samplesCall s sample o) (refused NoRoom s o) (samples-by s sample o ∙ rw (good, eq-eqb (length sample) sampleSize long, lt-ltb (length o) frameSize h) refl) a s o e refl refl
+
+      module _ (room : frameSize ≤ length o) where
+        pub not-finite : allFinite channels sample 0 ≡ false → a ≡ zeroes NotFinite → Leaves (samplesCall s sample o) a s o
+        not-finite h e =
+            left (samplesCall s sample o) (refused NotFinite s o)
+            (samples-by s sample o ∙ rw (good, eq-eqb (length sample) sampleSize long, le-ltb (length o) frameSize room, h) refl) a s o e refl refl
+
+        module _ (finite : allFinite channels sample 0 ≡ true) (t : List ℕ) (kept : t ≡ bytesOf (readingOf (recordOf s) sample)) where
+          pub silent : recordOf s .flags .sending ≡ false → a ≡ zeroes Done → Leaves (samplesCall s sample o) a t o
+          silent h e =
+              left (samplesCall s sample o) (refused Done (bytesOf (readingOf (recordOf s) sample)) o)
+              (samples-by s sample o ∙ rw (good, eq-eqb (length sample) sampleSize long, le-ltb (length o) frameSize room, finite, h, put-nil o 0) refl) a t o e kept refl
+
+          pub sent : recordOf s .flags .sending ≡ true → (p : List ℕ) → p ≡ put o 0 (measured channels sample) → a ≡ record { result = 0; written = frameSize; skipped = 0 } → Leaves (samplesCall s sample o) a t p
+          sent h p q e =
+              left (samplesCall s sample o) (done (readingOf (recordOf s) sample) (measured channels sample) 0 o)
+              (samples-by s sample o ∙ rw (good, eq-eqb (length sample) sampleSize long, le-ltb (length o) frameSize room, finite, h) refl) a t p e kept q
