@@ -8,12 +8,12 @@ ghost use lib.ListN.{length};
 ghost use Rattle.wire.specs.Numbers.{put};
 ghost use Rattle.board.specs.Calls.{zeroes, factoryCall, powerOnCall, bytesCall, measured, samplesCall, Leaves};
 use crate::serve::serve;
+use reading::peaks::finite_sample;
+use reading::peaks::take_reading;
 use record::Form;
 use record::check::form_of;
 use store::fresh::switch_on;
 use store::fresh::write_factory;
-use store::peaks::finite_sample;
-use store::peaks::take_reading;
 use wire::buffer::put_in;
 
 // How a call ends.

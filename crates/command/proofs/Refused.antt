@@ -1,5 +1,5 @@
 -- What the verdict on a frame tells of the checks, and what the frame then does.
-use Prim.Native.Nat.{ℕ}
+use Prim.Native.Nat.{ℕ, _+_}
 use mathlib.Core.Path.{_≡_, refl}
 use mathlib.Core.Logic.{_↔_}
 use mathlib.Core.List.{List, []}
@@ -7,7 +7,7 @@ use lib.ListN.{length}
 use Rattle.wire.specs.Serial.{headOf, numberOf, paramsOf}
 use Rattle.wire.specs.declared.Range.{Range}
 use Rattle.wire.specs.declared.Range.the-variants.{Fits, Big, Small}
-use Rattle.record.specs.Record.{Record}
+use Rattle.record.specs.Record.{Record, withTries}
 use Rattle.command.specs.declared.Command.{Command}
 use Rattle.command.specs.declared.Listed.{Listed}
 use Rattle.command.specs.declared.Listed.the-variants.{Built, NotBuilt, Unlisted}
@@ -84,3 +84,8 @@ refused-silent r f why h = rw (step-is r f, h) (refl, refl, refl)
 pub done-effect : (r : Record) (f : List ℕ) (c : Command) → verdict r f ≡ Do c
     → (stepOf r f .reply .status ≡ 0) × (stepOf r f .reply .body ≡ dataOf c r (paramsOf f)) × (stepOf r f .after ≡ effectOf c r (paramsOf f))
 done-effect r f c h = rw (step-is r f, h) (refl, refl, refl)
+
+-- a wrong code costs one try
+pub wrong-counted : (r : Record) (f : List ℕ) → verdict r f ≡ Refuse BadCode → stepOf r f .after ≡ withTries r (r .tries + 1)
+unfolding leftBy
+wrong-counted r f h = refused-silent r f BadCode h .2

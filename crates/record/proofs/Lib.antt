@@ -12,3 +12,4 @@ pub mod Scan
 pub mod Pending
 pub mod Fine
 pub mod PlaceLaws
+pub mod Whole

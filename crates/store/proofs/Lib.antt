@@ -1,3 +1,2 @@
 pub mod Turn
 pub mod Stores
-pub mod Readings

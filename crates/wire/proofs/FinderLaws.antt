@@ -163,3 +163,17 @@ finds-nothing l from until at seen e p w = rw e (record { passed = p; shows = w 
 
 pub reached : (l : List ℕ) (from until at : ℕ) → Reaches l from until at → (at ≡ until → ⊥) → getD l at 0 ≡ 0xAA
 reached l from until at r h = ⊎-elim (λ e. absurd (h e)) (λ e. e) (r .stops)
+
+-- sixteen bytes, as two tests of eight
+pub passed-sixteen : (l : List ℕ) (from at : ℕ) (a b : Bool) → Passed l from at → at + 16 ≤ length l → a ≡ quiet 8 l at → b ≡ quiet 8 l (at + 8) → (a && b) ≡ true → Passed l from (at + 16)
+passed-sixteen l from at a b p h ea eb t =
+    let w = both-by a b t in
+    let m : at + 16 ≡ at + 8 + 8 = omega arith in
+    rw m (passed-quiet 8 l from (at + 8) (passed-quiet 8 l from at p (omega arith) (sym ea ∙ w .0)) (omega arith) (sym eb ∙ w .1))
+
+-- the scan up to the lesser of the last place and the end of the stream
+pub scan-last : (l : List ℕ) (at last stop place : ℕ) → Candidate l at last place → (stop ≡ last) ⊎ (stop ≡ length l) → stop ≤ place → place < length l → last ≤ place
+scan-last l at last stop place k w h e = ⊎-elim (λ q. omega arith) (λ q. absurd (omega arith)) w
+
+pub lesser-least : (at last end stop : ℕ) → at + 2 ≤ last → at + 2 ≤ end → (stop ≡ last) ⊎ (stop ≡ end) → at + 2 ≤ stop
+lesser-least at last end stop a b w = ⊎-elim (λ q. omega arith) (λ q. omega arith) w

@@ -1,4 +1,5 @@
 // The hunt for frames in a stream: 9n and An.
+ghost use mathlib.Core.Logic.{_⊎_};
 ghost use mathlib.Core.Path.{_≡_};
 ghost use Prim.Native.Nat.{_+_, _≤_, _<_};
 ghost use lib.ListN.{length};
@@ -34,17 +35,19 @@ fn quiet_eight(s: &[u8], at: usize) -> bool
         & (s[at + 7] != 0xAA)
 }
 
-// Passes over noise, eight bytes a turn, as long as none of them is AA.
+// Passes over noise, sixteen bytes a turn, as long as none of them is AA.
 fn leap(s: &[u8], from: usize, until: usize) -> usize
     requires { ⌜ (from ≤ until) × (until ≤ length (now s)) ⌝ }
     ensures { λ r. ⌜ Passed (now (s .entry)) from r × (r ≤ until) ⌝ }
 {
     let mut at = from;
-    while 8 <= until - at {
-        if !quiet_eight(s, at) {
+    while 16 <= until - at {
+        let first = quiet_eight(s, at);
+        let second = quiet_eight(s, at + 8);
+        if !(first & second) {
             return at;
         }
-        at += 8;
+        at += 16;
     }
     at
 }
@@ -67,6 +70,16 @@ fn next_aa(s: &[u8], from: usize, until: usize) -> usize
     at
 }
 
+// The lesser of two numbers.
+fn lesser(a: usize, b: usize) -> usize
+    ensures { λ r. ⌜ (r ≤ a) × (r ≤ b) × ((r ≡ a) ⊎ (r ≡ b)) ⌝ }
+{
+    if a < b {
+        return a;
+    }
+    b
+}
+
 // Passes over bytes to skip, up to the next piece: a frame, a broken head, a candidate that waits, or `until`.
 pub fn find(s: &[u8], from: usize, until: usize) -> Found
     requires { ⌜ (from ≤ until) × (until ≤ length (now s)) × (length (now s) ≤ 4114) ⌝ }
@@ -87,14 +100,15 @@ pub fn find(s: &[u8], from: usize, until: usize) -> Found
             continue 'hunt;
         };
         let last = at + 3 + n;
+        let stop = lesser(last, s.len());
         let mut place = at + 2;
         loop {
-            if s.len() <= place {
-                break 'hunt;
-            }
-            if place < last {
+            if place < stop {
                 place += 1;
                 continue;
+            }
+            if s.len() <= place {
+                break 'hunt;
             }
             if s[place] != 0x85 {
                 seen = Seen::Torn;

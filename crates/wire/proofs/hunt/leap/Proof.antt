@@ -1,14 +1,11 @@
 use native.Mathlib.Omega.{arith}
-use Rattle.wire.proofs.FinderLaws.{passed-none, passed-quiet}
 use Rattle.wire.specs.Finder.{Passed}
-use Prim.Native.Nat.{ℕ, _+_, _-_, _≤_}
-use mathlib.Core.Path.{_≡_, sym, _∙_}
+use Rattle.wire.proofs.FinderLaws.{passed-none, passed-sixteen}
 use borrow.Author.Tests.{not-false}
+use Prim.Native.Nat.{ℕ, _+_, _-_, _≤_}
+use mathlib.Core.Path.{_≡_}
 use Rattle.wire.proofs.hunt.leap.Statement.{statement}
 use Rattle.wire.proofs.hunt.leap.Tie as tie
-use Rattle.wire.proofs.hunt.leap.Reads as reads
-use Rattle.wire.proofs.hunt.leap.Lts as lts
-use Rattle.wire.proofs.hunt.quiet_eight.Reads as quiet-eight-reads
 
 abbrev Inv-loop : tie.InvT-loop
 Inv-loop s from until at₀ at = Passed s from at × (at ≤ until)
@@ -25,8 +22,14 @@ sub-loop c = omega arith
 quiet-eight-requires : tie.Need-quiet-eight-requires Inv-loop μ-loop
 quiet-eight-requires c κs = omega arith
 
+add-quiet-eight : tie.Need-add-quiet-eight Inv-loop μ-loop
+add-quiet-eight c = omega arith
+
+quiet-eight-requires-2 : tie.Need-quiet-eight-requires-2 Inv-loop μ-loop
+quiet-eight-requires-2 c κs = omega arith
+
 returns : tie.Need-returns Inv-loop μ-loop
-returns c = c .before .before .before .loop .inv
+returns c = c .before .before .before .before .loop .inv
 
 add-at : tie.Need-add-at Inv-loop μ-loop
 add-at c = omega arith
@@ -36,9 +39,9 @@ loop-less c = omega arith
 
 loop-again : tie.Need-loop-again Inv-loop μ-loop
 loop-again c =
-    let l = c .before .before .before .loop in
-    let a = c .before .before .before .before .before .args in
-    (passed-quiet 8 (a .s .now) (a .from) (l .at) (l .inv .0) (omega arith) (sym (c .before .quiet-eight .ensures) ∙ not-false _ (c .if1 .left)), omega arith)
+    let l = c .before .before .before .before .loop in
+    let a = c .before .before .before .before .before .before .args in
+    (passed-sixteen (a .s .now) (a .from) (l .at) _ _ (l .inv .0) (omega arith) (c .before .before .quiet-eight .ensures) (c .before .quiet-eight2 .ensures) (not-false _ (c .if1 .left)), omega arith)
 
 returns-2 : tie.Need-returns-2 Inv-loop μ-loop
 returns-2 c = c .before .loop .inv
@@ -52,6 +55,8 @@ leap-spec =
     loop-holds
     sub-loop
     quiet-eight-requires
+    add-quiet-eight
+    quiet-eight-requires-2
     returns
     add-at
     loop-less

@@ -1,0 +1,94 @@
+-- What the bytes call does that each of the wrong boards does not, and such boards.
+use Prim.Native.Nat.{ℕ}
+use mathlib.Core.Path.{_≡_, refl, sym, ap, subst, fun-ext}
+use mathlib.Core.List.{List, [], _∷_, _++_}
+use native.Mathlib.Omega.{arith}
+use lib.ListN.{length, getD, replicate}
+use Rattle.wire.specs.Numbers.{put}
+use Rattle.wire.specs.Frames.{Piece, Whole, Broken, cutFrom, cut}
+use Rattle.wire.specs.Serial.{serial}
+use Rattle.wire.proofs.CutLaws.{packets}
+use Rattle.wire.proofs.SerialLaws.{serial-steady}
+use Rattle.record.specs.Record.{Settings}
+use Rattle.record.specs.Layout.{atFlags, bytesOf, recordOf}
+use Rattle.record.specs.Births.{factory}
+use Rattle.board.specs.declared.Ending.the-variants.{Done, BadRecord}
+use Rattle.board.specs.Calls.{Outcome, refused, bytesCall}
+use Rattle.demands.specs.Examples.{opening}
+use Rattle.demands.specs.Boards.{Board, Frame, RefusesAll, SaysDone, DoesNothing, FirstOnly, InventsCount, ShutOut, WrongShutOut, KindsExist}
+use Rattle.demands.proofs.Unique.{allowed-is}
+use Rattle.demands.proofs.Ending.{ends-properly}
+use Rattle.demands.proofs.Carried.{answers-as-listed}
+
+-- 23 stops sending; E3 with 0 sets the power
+abbrev stop : List ℕ
+stop = 0xAA ∷ 0x90 ∷ 0x23 ∷ 0x85 ∷ []
+
+abbrev weaken : List ℕ
+weaken = 0xAA ∷ 0xA2 ∷ 0xE3 ∷ 0x00 ∷ 0x00 ∷ 0x85 ∷ []
+
+abbrev room : List ℕ
+room = replicate 38 0xFF
+
+-- sending is stopped
+no-refuser : ¬ RefusesAll bytesCall
+unfolding bytesCall factory bytesOf recordOf cutFrom serial
+no-refuser h = h (bytesOf factory) stop room refl refl refl refl
+
+-- the answer to E0 has data
+no-sayer : ¬ SaysDone bytesCall
+unfolding bytesCall factory bytesOf recordOf cutFrom serial
+no-sayer h = let z : _≡_ {A = ℕ} 6 4 = ap length (h (bytesOf factory) opening room refl refl refl) in omega arith
+
+-- power 12 becomes 0
+no-idler : ¬ DoesNothing bytesCall
+unfolding bytesCall factory bytesOf recordOf
+no-idler h = let z : _≡_ {A = ℕ} 0 12 = ap (λ (g : Settings). g .power) (h (bytesOf factory) (opening ++ weaken) room) in omega arith
+
+-- after 23 the board is opened
+no-starter : ¬ FirstOnly bytesCall
+unfolding bytesCall factory bytesOf recordOf cutFrom serial
+no-starter h = let z : _≡_ {A = ℕ} 1 0 = ap (λ (s : List ℕ). getD s atFlags 0) (h (bytesOf factory) stop opening room refl refl) in omega arith
+
+-- a call that is done gives the cut's count
+no-inventor : ¬ InventsCount bytesCall
+no-inventor h =
+    let s = h .0 in
+    let input = h .1 in
+    let o = h .2 in
+    let served = ends-properly .bytes s input o .done .0 (h .3) in
+    h .4 (ap (λ (z : Outcome). z .answer .skipped) (answers-as-listed .in-turn .call s input o served))
+
+pub wrong-shut-out : WrongShutOut
+wrong-shut-out b m = subst ShutOut (sym same) (record { refuser = no-refuser; sayer = no-sayer; idler = no-idler; starter = no-starter; inventor = no-inventor })
+  where
+    same : b ≡ bytesCall
+    same = fun-ext (λ s. fun-ext (λ input. fun-ext (λ o. allowed-is (bytesCall s input o) (b s input o) (m s input o))))
+
+-- ---- a board of each kind
+
+-- what a stream starts with
+abbrev first : List Piece → List ℕ
+first [] = []
+first (Whole f ∷ ps) = f
+first (Broken head ∷ ps) = []
+
+first-of : (f g : List ℕ) → Frame f → first (cut serial (f ++ g) .pieces) ≡ f
+first-of f g e = rw (packets serial serial-steady f g, e) refl
+
+says : Board
+says s f o = record { answer = record { result = 0; written = 4; skipped = 0 }; kept = s; output = put o 0 (0xAA ∷ 0x50 ∷ 0x00 ∷ 0x85 ∷ []) }
+
+always-says : SaysDone says
+unfolding says put
+always-says s f o e n d = refl
+
+pub kinds-exist : KindsExist
+unfolding recordOf cutFrom
+kinds-exist = record {
+  refuser = (λ s f o. refused BadRecord s o, λ s f o e n d. absurd (omega arith));
+  sayer = (says, always-says);
+  idler = (λ s f o. refused Done s o, λ s f o. refl);
+  starter = (λ s f o. bytesCall s (first (cut serial f .pieces)) o, λ s f g o a b. rw (first-of f g a, a) refl);
+  inventor = (λ s f o. record { answer = record { result = 0; written = 0; skipped = 1 }; kept = s; output = o }, ([], [], [], refl, λ e. let z : _≡_ {A = ℕ} 1 0 = e in omega arith));
+}

@@ -1,0 +1,64 @@
+-- Demand 2 shuts out five wrong kinds of board.
+use Prim.Native.Nat.{ℕ}
+use mathlib.Core.Path.{_≡_}
+use mathlib.Core.Logic.{_≢_}
+use mathlib.Core.List.{List, [], _∷_, _++_}
+use lib.ListN.{getD, take}
+use Rattle.wire.specs.Frames.{Whole, cut}
+use Rattle.wire.specs.Serial.{serial}
+use Rattle.record.specs.Layout.{recordOf}
+use Rattle.board.specs.Calls.{Outcome, bytesCall}
+use Rattle.demands.specs.Unique.{Allows}
+
+-- whatever takes a record, an input and an output buffer and leaves an outcome
+abbrev pub Board : Type 0
+Board = List ℕ → List ℕ → List ℕ → Outcome
+
+-- the bytes f are one whole frame
+abbrev pub Frame : List ℕ → Type 0
+Frame f = cut serial f ≡ record { pieces = Whole f ∷ []; skipped = 0; waiting = [] }
+
+module _ (b : Board) where
+  -- its outcomes are such as the contract of the bytes call allows
+  abbrev pub Meets : Type 0
+  Meets = (s input o : List ℕ) → Allows (bytesCall s input o) (b s input o)
+
+  -- a frame on a record without pending bytes gets no number 0, or no status 00
+  abbrev pub RefusesAll : Type 0
+  RefusesAll = (s f o : List ℕ) → Frame f → recordOf s .pending ≡ [] → b s f o .answer .result ≡ 0 → getD (b s f o .output) 2 0 ≢ 0x00
+
+  -- it says AA 50 00 85 to every frame
+  abbrev pub SaysDone : Type 0
+  SaysDone = (s f o : List ℕ) → Frame f → recordOf s .pending ≡ [] → b s f o .answer .result ≡ 0
+      → take (b s f o .answer .written) (b s f o .output) ≡ 0xAA ∷ 0x50 ∷ 0x00 ∷ 0x85 ∷ []
+
+  -- it leaves every setting as it was
+  abbrev pub DoesNothing : Type 0
+  DoesNothing = (s input o : List ℕ) → recordOf (b s input o .kept) .settings ≡ recordOf s .settings
+
+  -- a second frame changes nothing more
+  abbrev pub FirstOnly : Type 0
+  FirstOnly = (s f g o : List ℕ) → Frame f → Frame g → b s (f ++ g) o .kept ≡ b s f o .kept
+
+  -- a call that is done may give a skipped count that is not the cut's
+  abbrev pub InventsCount : Type 0
+  InventsCount = (s input o : List ℕ) × (b s input o .answer .result ≡ 0) × (b s input o .answer .skipped ≢ cut serial (recordOf s .pending ++ input) .skipped)
+
+  -- None of them meets the contract.
+  pub record ShutOut : Type 0 where
+    pub refuser : ¬ RefusesAll
+    pub sayer : ¬ SaysDone
+    pub idler : ¬ DoesNothing
+    pub starter : ¬ FirstOnly
+    pub inventor : ¬ InventsCount
+
+abbrev pub WrongShutOut : Type 0
+WrongShutOut = (b : Board) → Meets b → ShutOut b
+
+-- Each of the five kinds has a board.
+pub record KindsExist : Type 0 where
+  pub refuser : (b : Board) × RefusesAll b
+  pub sayer : (b : Board) × SaysDone b
+  pub idler : (b : Board) × DoesNothing b
+  pub starter : (b : Board) × FirstOnly b
+  pub inventor : (b : Board) × InventsCount b
