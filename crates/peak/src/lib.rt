@@ -1,3 +1,4 @@
+// Peaks: patterns to floats and back, and a pair updated by strict comparison.
 ghost use mathlib.Core.Path.{_≡_};
 ghost use mathlib.Core.Bool.{true, not, cond};
 ghost use lib.Dec.{T};
@@ -36,6 +37,7 @@ pub fn finite_float(x: u32) -> f32
     f32::from_bits(x)
 }
 
+// The pattern of a float that is a number.
 pub fn bits_of(f: f32) -> u32
     requires { ⌜ T (not (isNan f)) ⌝ }
     ensures { λ r. ⌜ r ≡ bitsOf f ⌝ }
