@@ -13,7 +13,7 @@ use borrow.Author.Tests.{eq-eqb, ne-eqb, eqb-true, leb-true}
 use Rattle.wire.specs.Numbers.{Bytes, halfAt, wordAt, bytesAt, put}
 use Rattle.wire.proofs.NumberLaws.{length-part}
 use Rattle.wire.proofs.PutLaws.{put-put, put-sets}
-use Rattle.record.specs.Record.{withOpened, withUnlocked, withSending, withReading, withOutput, withPower, withStep, withMode, withOnOff, withInputs, withInterval, withFilter, withName, withFlags, withTries, withSettings, withOutputs, withModel, withPending}
+use Rattle.record.specs.Record.{withOpened, withUnlocked, withSending, withOutput, withPower, withStep, withMode, withOnOff, withInputs, withInterval, withFilter, withName, withFlags, withTries, withSettings, withOutputs, withModel, withPending}
 use Rattle.record.specs.Limits.{beforeZero}
 use Rattle.record.specs.Layout.{pendingRoom, atFlags, atTries, atPower, atStep, atMode, atOnOff, atInputs, atOutputs, atInterval, atFilter, atName, atModel, atPending}
 use Rattle.record.specs.Place.{Turns}
@@ -41,9 +41,6 @@ module _ (s : List ℕ) where
 
   pub turn-start : Turns s (set s atFlags (bitOr (getD s atFlags 0) 4)) (λ r. withFlags r (withSending (r .flags) true))
   turn-start = turn-flag s 3 true (omega arith) (omega arith)
-
-  pub turn-reading : Turns s (set s atFlags (bitOr (getD s atFlags 0) 8)) (λ r. withFlags r (withReading (r .flags) true))
-  turn-reading = turn-flag s 4 true (omega arith) (omega arith)
 
   -- ---- one byte
 

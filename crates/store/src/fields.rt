@@ -6,7 +6,7 @@ ghost use lib.ListN.{length, getD, set};
 ghost use lib.Seq.{sets};
 ghost use lib.Dec.{eqb};
 ghost use Rattle.wire.specs.Numbers.{halfAt, wordAt, bytesAt};
-ghost use Rattle.record.specs.Record.{withOpened, withUnlocked, withSending, withReading, withOutput, withPower, withStep, withMode, withOnOff, withInputs, withInterval, withFilter, withName, withFlags, withTries, withSettings, withOutputs, withModel, withPending};
+ghost use Rattle.record.specs.Record.{withOpened, withUnlocked, withSending, withOutput, withPower, withStep, withMode, withOnOff, withInputs, withInterval, withFilter, withName, withFlags, withTries, withSettings, withOutputs, withModel, withPending};
 ghost use Rattle.record.specs.Limits.{beforeZero};
 ghost use Rattle.record.specs.Place.{Turns};
 use record::check::first_zero;
@@ -46,13 +46,6 @@ pub fn start_sending(rec: &mut [u8])
     ensures { λ _. ⌜ Turns (now (rec .entry)) (now (rec .exit)) (λ r. withFlags r (withSending (r .flags) true)) ⌝ }
 {
     rec[3] |= 4;
-}
-
-pub fn note_reading(rec: &mut [u8])
-    requires { ⌜ length (now rec) ≡ 123 ⌝ }
-    ensures { λ _. ⌜ Turns (now (rec .entry)) (now (rec .exit)) (λ r. withFlags r (withReading (r .flags) true)) ⌝ }
-{
-    rec[3] |= 8;
 }
 
 pub fn count_try(rec: &mut [u8])
