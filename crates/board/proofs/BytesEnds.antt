@@ -18,15 +18,15 @@ use Rattle.record.specs.Layout.{bytesOf, recordOf}
 use Rattle.record.specs.Form.{InRange, formOf}
 use Rattle.record.specs.Place.{Sound}
 use Rattle.record.specs.declared.Form.the-variants.{Good, Bad}
-use Rattle.board.specs.Hunt.{huntOf, recordAfter}
-use Rattle.board.specs.Progress.{Serves}
+use Rattle.hunt.specs.Hunt.{huntOf, recordAfter}
+use Rattle.hunt.specs.Progress.{Serves}
 use Rattle.board.specs.Calls.{Outcome, zeroes, refused, done, served, bytesCall, Leaves, roomFor}
 use Rattle.board.specs.declared.Answer.{Answer}
-use Rattle.board.specs.declared.Progress.{Progress}
+use Rattle.hunt.specs.declared.Served.{Served}
 use Rattle.board.specs.declared.Ending.the-variants.{BadRecord, BadLength, NoRoom}
 use Rattle.board.proofs.Unfolded.{bytes-by}
 use Rattle.board.proofs.Ends.{left, good-sound}
-use Rattle.board.proofs.JoinLaws.{held-is}
+use Rattle.hunt.proofs.JoinLaws.{held-is}
 use Rattle.board.proofs.Room.{room-enough}
 
 -- the counts of a call fit: no more written than room was asked for, no more skipped than was there
@@ -34,10 +34,10 @@ skipped-most : (r : Record) (input : List ℕ) → huntOf r input .skipped ≤ l
 unfolding huntOf hunt
 skipped-most r input = omega (arith, conserved serial (r .pending ++ input), length-append (r .pending) input)
 
-pub served-small : (s input o : List ℕ) (p : Progress) (t out : List ℕ) → Sound s → Bytes input → length input ≤ 4096 → Serves (recordOf s) input o p t out → (p .wrote ≤ 19532) × (p .skipped ≤ 4114)
+pub served-small : (s input o : List ℕ) (p : Served) (t out : List ℕ) → Sound s → Bytes input → length input ≤ 4096 → Serves (recordOf s) input o p t out → (p .written ≤ 19532) × (p .skipped ≤ 4114)
 served-small s input o p t out sound b h f =
     let few = pending-short (recordOf s .pending) (sound .fit .pending) in
-    (omega (arith, few, f .wrote-is, room-enough (recordOf s) input b (sound .fit)), omega (arith, few, f .skipped-is, skipped-most (recordOf s) input))
+    (omega (arith, few, f .written-is, room-enough (recordOf s) input b (sound .fit)), omega (arith, few, f .skipped-is, skipped-most (recordOf s) input))
 
 module _ (s input o : List ℕ) (a : Answer) where
   pub bytes-bad-record : formOf s ≡ Bad → a ≡ zeroes BadRecord → Leaves (bytesCall s input o) a s o
@@ -57,10 +57,10 @@ module _ (s input o : List ℕ) (a : Answer) where
           left (bytesCall s input o) (refused NoRoom s o)
           (bytes-by s input o ∙ rw (g, le-ltb 4096 (length input) h, lt-ltb (length o) (roomFor (length (recordOf s .pending) + length input)) k′) refl) a s o e refl refl
 
-      pub bytes-done : 19 * ((getD s 56 0 + length input) / 4) ≤ length o → (p : Progress) (t out : List ℕ) → Serves (recordOf s) input o p t out
-          → a ≡ record { result = 0; written = p .wrote; skipped = p .skipped } → Leaves (bytesCall s input o) a t out
+      pub bytes-done : 19 * ((getD s 56 0 + length input) / 4) ≤ length o → (p : Served) (t out : List ℕ) → Serves (recordOf s) input o p t out
+          → a ≡ record { result = 0; written = p .written; skipped = p .skipped } → Leaves (bytesCall s input o) a t out
       bytes-done k p t out f e =
           let k′ : roomFor (length (recordOf s .pending) + length input) ≤ length o = rw room-is at k in
           left (bytesCall s input o) (served (huntOf (recordOf s) input) o)
           (bytes-by s input o ∙ rw (g, le-ltb 4096 (length input) h, le-ltb (length o) (roomFor (length (recordOf s .pending) + length input)) k′) refl) a t out
-          (e ∙ rw (f .wrote-is, f .skipped-is) refl) (f .record-is) (f .bytes)
+          (e ∙ rw (f .written-is, f .skipped-is) refl) (f .record-is) (f .bytes)

@@ -20,7 +20,7 @@ use Rattle.record.specs.Layout.{bytesOf, recordOf}
 use Rattle.record.specs.Form.{InRange, wellFormed}
 use Rattle.record.proofs.RoundTrip.{in-range, write-back}
 use Rattle.command.specs.Step.{answer}
-use Rattle.board.specs.Hunt.{huntOf, recordAfter}
+use Rattle.hunt.specs.Hunt.{huntOf, recordAfter}
 use Rattle.board.specs.declared.Ending.the-variants.{Done}
 use Rattle.board.specs.Calls.{Outcome, refused, served, roomFor, bytesCall}
 use Rattle.board.proofs.Unfolded.{bytes-by}

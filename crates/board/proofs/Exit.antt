@@ -16,10 +16,10 @@ use Rattle.record.specs.Reading.{readingOf}
 use Rattle.record.proofs.RoundTrip.{well-formed, in-range}
 use Rattle.record.proofs.Births.{factory-well, power-on-in}
 use Rattle.record.proofs.Reading.{reading-in}
-use Rattle.board.specs.Hunt.{huntOf, recordAfter}
+use Rattle.hunt.specs.Hunt.{huntOf, recordAfter}
 use Rattle.board.specs.declared.Ending.the-variants.{BadLength, NoRoom, NotFinite}
 use Rattle.board.specs.Calls.{Outcome, refused, factoryCall, powerOnCall, inputMost, roomFor, bytesCall, sampleSize, frameSize, samplesCall}
-use Rattle.board.proofs.Kept.{hunt-in}
+use Rattle.hunt.proofs.Kept.{hunt-in}
 
 abbrev Well : Outcome → Type 0
 Well z = wellFormed (z .kept) ≡ true

@@ -1,12 +1,7 @@
 pub mod Unfolded
-pub mod Kept
 pub mod Room
 pub mod Exit
 pub mod Empty
 pub mod Ends
 pub mod SampleEnds
-pub mod SofarLaws
-pub mod GoingLaws
-pub mod ServeLaws
-pub mod JoinLaws
 pub mod BytesEnds

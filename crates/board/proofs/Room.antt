@@ -17,7 +17,7 @@ use Rattle.record.specs.Record.{Record}
 use Rattle.record.specs.Form.{InRange}
 use Rattle.command.specs.Step.{stepOf, answer}
 use Rattle.command.proofs.Keep.{step-in, reply-short}
-use Rattle.board.specs.Hunt.{huntOf}
+use Rattle.hunt.specs.Hunt.{huntOf}
 use Rattle.board.specs.Calls.{roomFor}
 
 -- each frame has at least four bytes

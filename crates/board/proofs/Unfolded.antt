@@ -10,7 +10,7 @@ use Rattle.record.specs.Layout.{recordSize, channels, recordOf}
 use Rattle.record.specs.Form.{formOf}
 use Rattle.record.specs.Births.{factory, poweredOn}
 use Rattle.record.specs.Reading.{readingOf}
-use Rattle.board.specs.Hunt.{huntOf}
+use Rattle.hunt.specs.Hunt.{huntOf}
 use Rattle.board.specs.declared.Ending.the-variants.{BadRecord, BadLength, NoRoom, NotFinite}
 use Rattle.board.specs.Calls.{refused, done, byForm, factoryCall, powerOnCall, inputMost, roomFor, served, bytesCall, sampleSize, frameSize, measured, samplesCall}
 

@@ -16,7 +16,7 @@ use Rattle.record.specs.declared.Form.{Form}
 use Rattle.record.specs.declared.Form.the-variants.{Good, Bad}
 use Rattle.record.specs.Births.{factory, poweredOn}
 use Rattle.record.specs.Reading.{readingOf}
-use Rattle.board.specs.Hunt.{huntOf, recordAfter}
+use Rattle.hunt.specs.Hunt.{huntOf, recordAfter}
 use Rattle.board.specs.declared.Ending.{Ending}
 use Rattle.board.specs.declared.Ending.the-variants.{Done, BadRecord, BadLength, NoRoom, NotFinite}
 use Rattle.board.specs.declared.Answer.{Answer}

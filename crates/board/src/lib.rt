@@ -1,13 +1,11 @@
 // The four calls of the board.
-pub mod serve;
-
 ghost use mathlib.Core.Path.{_≡_};
 ghost use mathlib.Core.List.{[]};
 ghost use Prim.Native.Nat.{_≤_};
 ghost use lib.ListN.{length};
 ghost use Rattle.wire.specs.Numbers.{put};
 ghost use Rattle.board.specs.Calls.{zeroes, factoryCall, powerOnCall, bytesCall, measured, samplesCall, Leaves};
-use crate::serve::serve;
+use hunt::serve;
 use reading::peaks::finite_sample;
 use reading::peaks::take_reading;
 use record::Form;
@@ -31,13 +29,6 @@ pub struct Answer {
     pub result: u32,
     pub written: u32,
     pub skipped: u32,
-}
-
-// How far a hunt came: the place in its stream, the place in the output, the bytes skipped.
-pub struct Progress {
-    pub at: usize,
-    pub wrote: usize,
-    pub skipped: usize,
 }
 
 // An ending with zero counts.
@@ -97,7 +88,7 @@ pub extern "C" fn board_bytes(rec: &mut [u8], input: &[u8], out: &mut [u8]) -> A
     let p = serve(rec, input, out);
     Answer {
         result: 0,
-        written: p.wrote as u32,
+        written: p.written as u32,
         skipped: p.skipped as u32,
     }
 }

@@ -15,20 +15,29 @@ use Rattle.record.specs.Record.{Record}
 use Rattle.record.specs.Layout.{bytesOf, recordOf}
 use Rattle.record.specs.Place.{Holds, Sound, Turns, Shows}
 use Rattle.record.proofs.PlaceLaws.{holds-is, turn-holds}
-use Rattle.command.specs.Tables.{countedOf, rangeOf}
+use Rattle.record.proofs.Lens.{get-tries}
+use Rattle.command.specs.Tables.{countedOf, needOf, rangeOf}
 use Rattle.command.specs.Effects.{effectOf, dataOf}
 use Rattle.command.specs.Judge.{statusOf, verdictOf}
 use Rattle.command.specs.Step.{leftBy, Step, settled, stepOf}
 use Rattle.command.specs.declared.Command.{Command}
 use Rattle.command.specs.declared.Counted.the-variants.{Right}
 use Rattle.command.specs.declared.Refusal.{Refusal}
+use Rattle.command.specs.declared.Refusal.the-variants.{BadCode}
 use Rattle.command.specs.declared.Verdict.{Verdict}
 use Rattle.command.specs.declared.Verdict.the-variants.{Do, Refuse}
-use Rattle.command.proofs.Refused.{step-is, passed}
-use Rattle.command.proofs.Keep.{step-in}
-use Rattle.carry.specs.Carry.{Countable, Answers, Acts, Carries}
-use Rattle.carry.proofs.Carry.{countable}
-use Rattle.carry.proofs.Data.{data-after}
+use Rattle.command.proofs.Refused.{Checks, checks, step-is, passed}
+use Rattle.command.proofs.Keep.{step-in, wrong-code}
+use Rattle.answer.specs.Answers.{Answers}
+use Rattle.answer.proofs.Data.{data-after}
+use Rattle.effect.specs.Countable.{Countable}
+use Rattle.carry.specs.Carry.{Acts, Carries}
+
+-- a wrong code is found only while a try is left
+pub countable : (s : List ℕ) (r : Record) (head number : ℕ) (p : List ℕ) (why : Refusal) → s ≡ bytesOf r → verdictOf r head number p ≡ Refuse why → Countable why s
+countable s r head number p why e v told =
+    let h : Checks r head number p (Refuse BadCode) = rw (v, told) at (checks r head number p) in
+    rw (e, get-tries r) (wrong-code (needOf (h .0)) r p (h .3) .1)
 
 -- the part of the frame that is handed on
 abbrev pub part : List ℕ → List ℕ

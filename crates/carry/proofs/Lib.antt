@@ -1,3 +1,1 @@
-pub mod Carry
-pub mod Data
 pub mod Acted

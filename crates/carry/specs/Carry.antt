@@ -1,27 +1,16 @@
 -- What carrying out one whole frame leaves in the record's bytes and in the output.
-use Prim.Native.Nat.{ℕ, _+_, _≤_, _<_}
+use Prim.Native.Nat.{ℕ, _+_, _≤_}
 use mathlib.Core.Path.{_≡_}
 use mathlib.Core.List.{List}
-use lib.ListN.{length, getD}
+use lib.ListN.{length}
 use Rattle.wire.specs.Numbers.{put}
 use Rattle.wire.specs.Serial.{headOf, numberOf, paramsOf}
 use Rattle.wire.specs.Replies.{replyBytes}
 use Rattle.record.specs.Record.{Record}
-use Rattle.record.specs.Layout.{atTries}
 use Rattle.record.specs.Place.{Holds}
 use Rattle.command.specs.Judge.{verdictOf}
 use Rattle.command.specs.Step.{stepOf}
-use Rattle.command.specs.declared.Refusal.{Refusal}
-use Rattle.command.specs.declared.Refusal.the-variants.{BadCode}
 use Rattle.command.specs.declared.Verdict.{Verdict}
-
--- where a refusal counts a try, one is left to be counted
-abbrev pub Countable : Refusal → List ℕ → Type 0
-Countable why s = why ≡ BadCode → getD s atTries 0 < 3
-
--- n bytes of data d are written into a buffer from a place on, as many as a reply holds at most
-abbrev pub Answers : List ℕ → ℕ → List ℕ → ℕ → List ℕ → Type 0
-Answers before at d n after = (n ≡ length d) × (n ≤ 15) × (after ≡ put before at d)
 
 -- judged and carried out, without a reply
 pub record Acts (r : Record) (f : List ℕ) (v : Verdict) (kept : List ℕ) : Type 0 where

@@ -1,4 +1,55 @@
-// One whole frame carried out on the record in its bytes, and its reply.
-pub mod answer;
-pub mod effect;
-pub mod step;
+// One whole frame carried out on the record in its bytes: judged, carried out, answered.
+ghost use mathlib.Core.Path.{_≡_};
+ghost use mathlib.Core.Bool.{true};
+ghost use Prim.Native.Nat.{_+_, _≤_};
+ghost use lib.ListN.{length};
+ghost use Rattle.wire.specs.Serial.{isHead, headOf};
+ghost use Rattle.record.specs.Layout.{recordOf};
+ghost use Rattle.record.specs.Place.{Sound};
+ghost use Rattle.carry.specs.Carry.{Acts, Carries};
+use answer::put_data;
+use command::Verdict;
+use effect::carry_out;
+use effect::refuse_on;
+use judge::judge;
+use table::status_of;
+use wire::reply::close_reply;
+
+// Judges a frame and does to the record what follows from that.
+pub fn act(rec: &mut [u8], frame: &[u8]) -> Verdict
+    requires { ⌜ Sound (now rec) ⌝ }
+    requires { ⌜ 4 ≤ length (now frame) ⌝ }
+    ensures { λ v. ⌜ Acts (recordOf (now (rec .entry))) (now (frame .entry)) v (now (rec .exit)) ⌝ }
+{
+    let end = frame.len() - 1;
+    let p = &frame[3..end];
+    let verdict = judge(rec, frame[1], frame[2], p);
+    match verdict {
+        Verdict::Do(c) => {
+            carry_out(rec, c, p);
+        }
+        Verdict::Refuse(why) => {
+            refuse_on(rec, why);
+        }
+    }
+    verdict
+}
+
+// The same, with the reply written at a place; returns the place behind it.
+pub fn carry(rec: &mut [u8], frame: &[u8], out: &mut [u8], at: usize) -> usize
+    requires { ⌜ Sound (now rec) ⌝ }
+    requires { ⌜ (4 ≤ length (now frame)) × (isHead (headOf (now frame)) ≡ true) ⌝ }
+    requires { ⌜ at + 19 ≤ length (now out) ⌝ }
+    ensures { λ e. ⌜ Carries (recordOf (now (rec .entry))) (now (frame .entry)) (now (out .entry)) at e (now (rec .exit)) (now (out .exit)) ⌝ }
+{
+    let end = frame.len() - 1;
+    let p = &frame[3..end];
+    let verdict = act(rec, frame);
+    match verdict {
+        Verdict::Do(c) => {
+            let n = put_data(rec, c, p, out, at + 3);
+            close_reply(out, at, frame[1], 0, n)
+        }
+        Verdict::Refuse(why) => close_reply(out, at, frame[1], status_of(why), 0),
+    }
+}

@@ -3,4 +3,4 @@ pub mod Blind
 pub mod Secrecy
 pub mod Compare
 pub mod Keep
-pub mod Checks
+pub mod Admitted

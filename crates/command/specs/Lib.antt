@@ -3,4 +3,3 @@ pub mod Effects
 pub mod Judge
 pub mod Step
 pub mod Compare
-pub mod Checks

@@ -1,6 +1,4 @@
-// The command tables, and how a frame is judged by them.
-pub mod judge;
-
+// The words of the command tables and of the judge; what they mean is in the definitions.
 // The commands of both tables, in the order of the tables.
 pub enum Command {
     Open,

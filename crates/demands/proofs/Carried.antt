@@ -22,7 +22,7 @@ use Rattle.command.specs.declared.Verdict.the-variants.{Do, Refuse}
 use Rattle.command.specs.Judge.{statusOf, byNumber}
 use Rattle.command.specs.Step.{stepOf, leftBy, settled, answer}
 use Rattle.command.proofs.Refused.{verdict-is, verdict, step-is, passed, takes-effect, refused-silent}
-use Rattle.board.specs.Hunt.{huntOf, recordAfter}
+use Rattle.hunt.specs.Hunt.{huntOf, recordAfter}
 use Rattle.demands.specs.Carried.{number, Legal, Carried, announced, SixLines, InTurn, AnswersAsListed}
 use Rattle.demands.proofs.Ending.{factory-done, power-on-done, bytes-done, samples-done}
 

@@ -24,13 +24,13 @@ use Rattle.record.proofs.Births.{factory-in, power-on-in}
 use Rattle.record.proofs.Lens.{long}
 use Rattle.board.specs.declared.Ending.{Ending}
 use Rattle.board.specs.declared.Ending.the-variants.{BadRecord, BadLength, NoRoom, NotFinite}
-use Rattle.board.specs.Hunt.{huntOf, recordAfter}
+use Rattle.hunt.specs.Hunt.{huntOf, recordAfter}
 use Rattle.record.specs.Reading.{readingOf}
 use Rattle.board.specs.Calls.{Outcome, refused, done, served, factoryCall, powerOnCall, inputMost, roomFor, bytesCall, sampleSize, frameSize, measured, samplesCall}
 use Rattle.board.proofs.Unfolded.{factory-by, power-on-by, bytes-by, samples-by}
 use Rattle.board.proofs.Exit.{form-good}
 use Rattle.record.proofs.Reading.{reading-in}
-use Rattle.board.proofs.Kept.{hunt-in}
+use Rattle.hunt.proofs.Kept.{hunt-in}
 use Rattle.board.proofs.Room.{room-enough}
 use Rattle.board.proofs.Ends.{good-long}
 use Rattle.demands.specs.Ending.{Malformed, TooLong, Cramped, Stray, Served, Sampled, FactoryEnds, PowerOnEnds, BytesEnds, SamplesEnds, Leaving, EndsProperly}

@@ -29,12 +29,12 @@ use Rattle.command.proofs.Secrecy.{step-same, used-up, tries-stay}
 use Rattle.command.proofs.Compare.{compares-exactly}
 use Rattle.board.specs.declared.Ending.{Ending}
 use Rattle.board.specs.declared.Ending.the-variants.{BadRecord, BadLength, NoRoom, NotFinite}
-use Rattle.board.specs.Hunt.{huntOf, recordAfter}
+use Rattle.hunt.specs.Hunt.{huntOf, recordAfter}
 use Rattle.record.specs.Reading.{readingOf}
 use Rattle.board.specs.Calls.{Outcome, refused, done, byForm, served, factoryCall, powerOnCall, inputMost, roomFor, bytesCall, sampleSize, frameSize, measured, samplesCall}
 use Rattle.board.proofs.Unfolded.{factory-by, power-on-by, bytes-by, samples-by}
 use Rattle.record.proofs.Reading.{reading-in}
-use Rattle.board.proofs.Kept.{hunt-in}
+use Rattle.hunt.proofs.Kept.{hunt-in}
 use Rattle.demands.specs.Secrecy.{SameButCode, Call, Factory, PowerOn, Receive, Sample, outcomeOf, Given, Compared, Quiet, QuietRun, QuietCall, AllQuiet, Alike, OneCall, NothingTold, NoReset, NothingToldUsedUp, PremiseMet, PremiseNeeded}
 use Rattle.demands.proofs.Ways.{factory-way, power-on-way, bytes-way, samples-way}
 use Rattle.demands.proofs.Ending.{not-bad, ends-properly}

@@ -12,7 +12,7 @@ use Rattle.record.specs.Form.{wellFormed, formBy, formOf}
 use Rattle.record.specs.Births.{factory, poweredOn}
 use Rattle.board.specs.declared.Ending.{Ending}
 use Rattle.board.specs.declared.Ending.the-variants.{BadRecord, BadLength, NoRoom, NotFinite}
-use Rattle.board.specs.Hunt.{huntOf}
+use Rattle.hunt.specs.Hunt.{huntOf}
 use Rattle.record.specs.Reading.{readingOf}
 use Rattle.board.specs.Calls.{Outcome, refused, done, byForm, served, factoryCall, powerOnCall, inputMost, roomFor, bytesCall, sampleSize, frameSize, measured, samplesCall}
 use Rattle.board.proofs.Unfolded.{factory-by, power-on-by, bytes-by, samples-by}

@@ -1,0 +1,5 @@
+pub mod Kept
+pub mod SofarLaws
+pub mod GoingLaws
+pub mod ServeLaws
+pub mod JoinLaws

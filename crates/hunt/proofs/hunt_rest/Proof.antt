@@ -1,0 +1,42 @@
+use Rattle.hunt.proofs.JoinLaws.{rests-kept, rests-short, rests}
+use mathlib.Core.Path.{_≡_, sym, ap, _∙_}
+use borrow.Author.Needs.{needs}
+use Rattle.hunt.proofs.hunt_rest.Statement.{statement}
+use Rattle.hunt.proofs.hunt_rest.Tie as tie
+
+hunt-in-requires : tie.Need-hunt-in-requires
+hunt-in-requires c κs = search needs
+
+sub-set-pending : tie.Need-sub-set-pending
+sub-set-pending c = search needs
+
+part-set-pending-start : tie.Need-part-set-pending-start
+part-set-pending-start c = search needs
+
+part-set-pending-end : tie.Need-part-set-pending-end
+part-set-pending-end c = search needs
+
+set-pending-requires : tie.Need-set-pending-requires
+set-pending-requires c κs = (rests-kept (c .before .before .before .before .before .before .before .before .before .before .before .before .args .rec .now) (c .before .before .before .before .before .before .before .before .before .before .before .before .args .s .now) (c .before .before .before .before .before .before .before .before .before .before .before .before .args .out .now) (c .before .before .before .before .before .before .before .before .before .before .before .before .args .start) (c .before .before .before .before .before .before .hunt-in .result) (c .before .before .before .before .before .before .hunt-in .last .0) (c .before .before .before .before .before .before .hunt-in .last .1 .1 .1 .0) (c .before .before .before .before .before .before .hunt-in .ensures), rests-short (c .before .before .before .before .before .before .before .before .before .before .before .before .args .rec .now) (c .before .before .before .before .before .before .before .before .before .before .before .before .args .s .now) (c .before .before .before .before .before .before .before .before .before .before .before .before .args .out .now) (c .before .before .before .before .before .before .before .before .before .before .before .before .args .start) (c .before .before .before .before .before .before .hunt-in .result) (c .before .before .before .before .before .before .hunt-in .last .0) (c .before .before .before .before .before .before .hunt-in .last .1 .1 .1 .0) (c .before .before .before .before .before .before .hunt-in .ensures))
+
+same-length : tie.Need-same-length
+same-length c = search needs
+
+same-length-2 : tie.Need-same-length-2
+same-length-2 c = search needs
+
+returns : tie.Need-returns
+returns c = rests (c .before .before .before .before .before .before .before .before .before .before .before .before .before .before .before .args .rec .now) (c .before .before .before .before .before .before .before .before .before .before .before .before .before .before .before .args .s .now) (c .before .before .before .before .before .before .before .before .before .before .before .before .before .before .before .args .out .now) (c .before .before .before .before .before .before .before .before .before .before .before .before .before .before .before .args .start) (c .before .before .before .before .before .before .before .before .before .hunt-in .result) (c .before .before .before .before .before .before .before .before .before .hunt-in .last .0) (c .before .before .before .before .before .before .before .before .before .hunt-in .last .1 .1 .1 .0) (c .before .before .before .before .before .before .before .before .before .hunt-in .ensures) _ (c .before .before .set-pending .ensures)
+
+pub hunt-rest-spec : {M : Type 1} → statement M
+hunt-rest-spec =
+    tie.close
+    (tie.spec
+    hunt-in-requires
+    sub-set-pending
+    part-set-pending-start
+    part-set-pending-end
+    set-pending-requires
+    same-length
+    same-length-2
+    returns)

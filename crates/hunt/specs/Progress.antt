@@ -1,0 +1,59 @@
+-- What the hunting code has done so far: with what is left it gives the whole.
+use Prim.Native.Nat.{ℕ, _+_, _-_, _*_, _/_, _≤_}
+use mathlib.Core.Path.{_≡_}
+use mathlib.Core.Logic.{_⊎_}
+use mathlib.Core.List.{List, _++_}
+use lib.ListN.{length, take, drop}
+use Rattle.wire.specs.Numbers.{put}
+use Rattle.wire.specs.Frames.{look, Wait}
+use Rattle.wire.specs.Serial.{serial}
+use Rattle.wire.specs.Replies.{Reply, written}
+use Rattle.wire.specs.Run.{Hunted, hunt, ahead}
+use Rattle.record.specs.Record.{Record, withPending}
+use Rattle.record.specs.Layout.{bytesOf}
+use Rattle.record.specs.Place.{Holds, Turns}
+use Rattle.hunt.specs.Hunt.{huntFrom, huntOf, recordAfter}
+use Rattle.hunt.specs.declared.Progress.{Progress}
+use Rattle.hunt.specs.declared.Served.{Served}
+
+-- the board b at a place of the stream, so many bytes skipped, these replies said
+pub record Along (r : Record) (l : List ℕ) (b : Record) (at skipped : ℕ) (said : List Reply) : Type 0 where
+  pub within : at ≤ length l
+  pub few : skipped ≤ at
+  pub hunts : huntFrom r l ≡ ahead said skipped (huntFrom b (drop at l))
+
+-- and the replies written from a place of the output on
+pub record Sofar (r : Record) (l before : List ℕ) (start : ℕ) (b : Record) (at skipped wrote : ℕ) (out : List ℕ) : Type 0 where
+  pub said : List Reply
+  pub along : Along r l b at skipped said
+  pub room : length (written said) ≤ 19 * (at / 4)
+  pub wrote-is : wrote ≡ start + length (written said)
+  pub bytes : out ≡ put before start (written said)
+
+-- and the record's bytes those of the board
+pub record Going (r : Record) (l before : List ℕ) (start at skipped wrote : ℕ) (kept out : List ℕ) : Type 0 where
+  pub board : Record
+  pub held : Holds board kept
+  pub sofar : Sofar r l before start board at skipped wrote out
+
+-- what the hunt through a stream leaves: it came up to a place, or to a candidate that waits
+pub record Hunts (r : Record) (l before : List ℕ) (until start : ℕ) (p : Progress) (kept out : List ℕ) : Type 0 where
+  pub going : Going r l before start (p .at) (p .skipped) (p .wrote) kept out
+  pub stops : (until ≤ p .at) ⊎ (look serial (drop (p .at) l) ≡ Wait)
+
+-- what the hunt through all of a stream leaves, with what waits as the pending bytes
+pub record Rests (r : Record) (l before : List ℕ) (start : ℕ) (p : Progress) (kept out : List ℕ) : Type 0 where
+  pub mid : List ℕ
+  pub hunts : Hunts r l before (length l) start p mid out
+  pub turns : Turns mid kept (λ z. withPending z (drop (p .at) l))
+
+-- the first n bytes of a buffer are the pending bytes and as much of the input as a candidate that starts in them can reach
+abbrev pub Joins : List ℕ → List ℕ → ℕ → List ℕ → Type 0
+Joins pending input n head = (n ≡ length pending + (length input - (length input - 19))) × (take n head ≡ pending ++ take (length input - (length input - 19)) input)
+
+-- what a bytes call that passed its checks leaves
+pub record Serves (r : Record) (input before : List ℕ) (t : Served) (kept out : List ℕ) : Type 0 where
+  pub record-is : kept ≡ bytesOf (recordAfter (huntOf r input))
+  pub written-is : t .written ≡ length (written (huntOf r input .said))
+  pub skipped-is : t .skipped ≡ huntOf r input .skipped
+  pub bytes : out ≡ put before 0 (written (huntOf r input .said))

@@ -1,0 +1,122 @@
+// Received bytes: every frame of the stream carried out, and what waits kept.
+ghost use mathlib.Core.Path.{_≡_};
+ghost use mathlib.Core.List.{_++_};
+ghost use Prim.Native.Nat.{_+_, _-_, _*_, _/_, _≤_};
+ghost use lib.ListN.{length, take, drop};
+ghost use Rattle.record.specs.Layout.{recordOf};
+ghost use Rattle.record.specs.Place.{Sound};
+ghost use Rattle.hunt.specs.Progress.{Hunts, Rests, Joins, Serves};
+use carry::carry;
+use store::fields::set_pending;
+use wire::Seen;
+use wire::buffer::put_in;
+use wire::hunt::find;
+
+// How far a hunt came: the place in its stream, the place in the output, the bytes skipped.
+pub struct Progress {
+    pub at: usize,
+    pub wrote: usize,
+    pub skipped: usize,
+}
+
+// What a bytes call tells of its whole stream.
+pub struct Served {
+    pub written: usize,
+    pub skipped: usize,
+}
+
+// Hunts through s up to the first piece that begins at `until` or later; writes the replies from a place on.
+fn hunt_in(rec: &mut [u8], s: &[u8], until: usize, out: &mut [u8], start: usize) -> Progress
+    requires { ⌜ Sound (now rec) ⌝ }
+    requires { ⌜ (until ≤ length (now s)) × (length (now s) ≤ 4114) ⌝ }
+    requires { ⌜ start + 19 * (length (now s) / 4) ≤ length (now out) ⌝ }
+    ensures { λ p. ⌜ Hunts (recordOf (now (rec .entry))) (now (s .entry)) (now (out .entry)) until start p (now (rec .exit)) (now (out .exit)) ⌝ }
+{
+    let mut at = 0;
+    let mut wrote = start;
+    let mut skipped = 0;
+    'hunt: while at < until {
+        let found = find(s, at, until);
+        let to = found.at;
+        let seen = found.seen;
+        skipped += to - at;
+        at = to;
+        match seen {
+            Seen::Frame(n) => {
+                wrote = carry(rec, &s[at..at + 4 + n], out, wrote);
+                at = at + 4 + n;
+                continue 'hunt;
+            }
+            Seen::Torn => {
+                at += 1;
+                skipped += 1;
+                continue 'hunt;
+            }
+            Seen::Nothing => {
+                break 'hunt;
+            }
+        }
+    }
+    Progress { at, wrote, skipped }
+}
+
+// What a candidate that starts in the pending bytes can reach of the input.
+fn reach(len: usize) -> usize
+    ensures { λ n. ⌜ n ≡ len - (len - 19) ⌝ }
+{
+    if len < 19 {
+        return len;
+    }
+    19
+}
+
+// Joins the pending bytes and as much of the input as a candidate that starts in them can reach.
+fn join(rec: &[u8], held: usize, input: &[u8], head: &mut [u8]) -> usize
+    requires { ⌜ (length (now rec) ≡ 123) × (held ≤ 18) × (length (now head) ≡ 37) ⌝ }
+    ensures { λ n. ⌜ Joins (take held (drop 57 (now (rec .entry)))) (now (input .entry)) n (now (head .exit)) ⌝ }
+{
+    let n = reach(input.len());
+    let end = put_in(head, 0, &rec[57..57 + held]);
+    put_in(head, end, &input[..n])
+}
+
+// Hunts through all of a stream; what waits at its end becomes the pending bytes.
+fn hunt_rest(rec: &mut [u8], s: &[u8], out: &mut [u8], start: usize) -> Progress
+    requires { ⌜ Sound (now rec) ⌝ }
+    requires { ⌜ length (now s) ≤ 4114 ⌝ }
+    requires { ⌜ start + 19 * (length (now s) / 4) ≤ length (now out) ⌝ }
+    ensures { λ p. ⌜ Rests (recordOf (now (rec .entry))) (now (s .entry)) (now (out .entry)) start p (now (rec .exit)) (now (out .exit)) ⌝ }
+{
+    let len = s.len();
+    let p = hunt_in(rec, s, len, out, start);
+    let at = p.at;
+    set_pending(rec, &s[at..len]);
+    p
+}
+
+// The whole of a bytes call that passed its checks: first candidates that start in the pending bytes, then the input itself.
+pub fn serve(rec: &mut [u8], input: &[u8], out: &mut [u8]) -> Served
+    requires { ⌜ Sound (now rec) ⌝ }
+    requires { ⌜ length (now input) ≤ 4096 ⌝ }
+    requires { ⌜ 19 * ((length (recordOf (now rec) .pending) + length (now input)) / 4) ≤ length (now out) ⌝ }
+    ensures { λ t. ⌜ Serves (recordOf (now (rec .entry))) (now (input .entry)) (now (out .entry)) t (now (rec .exit)) (now (out .exit)) ⌝ }
+{
+    let held = rec[56] as usize;
+    let mut head = [0u8; 37];
+    let total = join(rec, held, input, &mut head);
+    let first = hunt_in(rec, &head[..total], held, out, 0);
+    let at = first.at;
+    if at < held {
+        set_pending(rec, &head[at..total]);
+        return Served {
+            written: first.wrote,
+            skipped: first.skipped,
+        };
+    }
+    let from = at - held;
+    let rest = hunt_rest(rec, &input[from..], out, first.wrote);
+    Served {
+        written: rest.wrote,
+        skipped: first.skipped + rest.skipped,
+    }
+}

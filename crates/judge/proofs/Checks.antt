@@ -1,0 +1,144 @@
+-- What each check of the code finds is what the judge's definitions say.
+use Prim.Native.Nat.{ℕ, _-_, _/_, _%_, _≤_, _<_, zero-le}
+use mathlib.Core.Path.{_≡_, refl, sym, ap, _∙_}
+use mathlib.Core.Bool.{Bool, true, false, cond, _&&_}
+use mathlib.Core.List.{List, [], _∷_}
+use native.Mathlib.Nat.{le-refl, le-trans}
+use native.Mathlib.Omega.{arith}
+use borrow.Author.Tests.{le-leb, lt-leb, eq-eqb, ne-eqb, leb-true}
+use lib.ListN.{length, getD, take, drop}
+use lib.Seq.{take-all}
+use lib.Dec.{leb, eqb}
+use Rattle.wire.specs.Numbers.{wordAt}
+use Rattle.wire.specs.Ranges.{fits, also}
+use Rattle.wire.specs.declared.Range.{Range}
+use Rattle.wire.specs.declared.Range.the-variants.{Fits, Big, Small}
+use Rattle.record.specs.Record.{Record}
+use Rattle.record.specs.Limits.{nameRange}
+use Rattle.record.specs.Layout.{atFlags, atTries, atCode, flagsByte, bytesOf, bitOf}
+use Rattle.record.specs.Place.{Shows}
+use Rattle.record.proofs.Choices.{bits-back}
+use Rattle.record.proofs.Lens.{get-flags, get-tries, get-code}
+use Rattle.command.specs.declared.Command.{Command}
+use Rattle.command.specs.declared.Command.the-variants.{Open, Close, ReadPower, SetPower, ReadStep, SetStep, ReadMode, SetMode, ReadName, SetName, ReadOnOff, SetOnOff, SetInput, ReadInput, SwitchOutput, SetInterval, ReadInterval, Unlock, ReadLock, ReadModel, SetModel, StopSending, StartSending, ReadFilter, SetFilter, ReadPair}
+use Rattle.command.specs.declared.Listed.{Listed}
+use Rattle.command.specs.declared.Listed.the-variants.{Built, NotBuilt, Unlisted}
+use Rattle.command.specs.declared.Counted.the-variants.{Right, Wrong}
+use Rattle.command.specs.declared.Need.the-variants.{Code}
+use Rattle.command.specs.declared.Access.{Access}
+use Rattle.command.specs.declared.Access.the-variants.{Given, Missing, WrongCode}
+use Rattle.command.specs.declared.Verdict.the-variants.{Do, Refuse}
+use Rattle.command.specs.declared.Refusal.the-variants.{Parameters}
+use Rattle.command.specs.Tables.{Row, lookUp, listedOf, spanOf, countedOf, countedBy, needOf, rangeOf}
+use Rattle.command.specs.Judge.{accessOf, verdictOf}
+use Rattle.judge.specs.Checks.{asks, numberRefusal, accessRefusal, rangeRefusal}
+use Rattle.command.proofs.Refused.{verdict-is}
+use Rattle.command.proofs.Keep.{counted-span}
+
+-- ---- parameters
+
+asked-least : (c : Command) → asks (needOf c) ≤ spanOf c .least
+unfolding needOf spanOf
+asked-least Open = zero-le
+asked-least Close = zero-le
+asked-least ReadPower = zero-le
+asked-least SetPower = zero-le
+asked-least ReadStep = zero-le
+asked-least SetStep = zero-le
+asked-least ReadMode = zero-le
+asked-least SetMode = zero-le
+asked-least ReadName = zero-le
+asked-least SetName = zero-le
+asked-least ReadOnOff = zero-le
+asked-least SetOnOff = zero-le
+asked-least SetInput = zero-le
+asked-least ReadInput = zero-le
+asked-least SwitchOutput = zero-le
+asked-least SetInterval = zero-le
+asked-least ReadInterval = zero-le
+asked-least Unlock = le-refl 4
+asked-least ReadLock = zero-le
+asked-least ReadModel = zero-le
+asked-least SetModel = zero-le
+asked-least StopSending = zero-le
+asked-least StartSending = zero-le
+asked-least ReadFilter = zero-le
+asked-least SetFilter = zero-le
+asked-least ReadPair = zero-le
+
+pub asked : (c : Command) (n : ℕ) → countedOf c n ≡ Right → asks (needOf c) ≤ n
+asked c n h = le-trans (asked-least c) (counted-span c n h .0)
+
+-- ---- access
+
+module _ (s : List ℕ) (r : Record) (e : s ≡ bytesOf r) where
+  flags-at : getD s atFlags 0 ≡ flagsByte (r .flags)
+  flags-at = ap (λ (l : List ℕ). getD l atFlags 0) e ∙ get-flags r
+
+  opened-bit : bitOf (getD s atFlags 0) 1 ≡ r .flags .opened
+  opened-bit = rw flags-at (bits-back (r .flags .opened) (r .flags .unlocked) (r .flags .sending) (r .flags .reading) .0)
+
+  unlocked-bit : bitOf (getD s atFlags 0) 2 ≡ r .flags .unlocked
+  unlocked-bit = rw flags-at (bits-back (r .flags .opened) (r .flags .unlocked) (r .flags .sending) (r .flags .reading) .1)
+
+  tries-at : getD s atTries 0 ≡ r .tries
+  tries-at = ap (λ (l : List ℕ). getD l atTries 0) e ∙ get-tries r
+
+pub opened-is : (s : List ℕ) → Shows s (eqb (getD s atFlags 0 % 2) 1) (λ r. r .flags .opened)
+opened-is s r i e = let z : getD s atFlags 0 % 2 ≡ getD s atFlags 0 / 1 % 2 = omega arith in rw z (opened-bit s r e)
+
+pub unlocked-is : (s : List ℕ) → Shows s (eqb (getD s atFlags 0 / 2 % 2) 1) (λ r. r .flags .unlocked)
+unlocked-is s r i e = unlocked-bit s r e
+
+-- the code is compared with configuration mode closed and a try left
+module _ (s p : List ℕ) (o : Bool) (shown : Shows s o (λ r. r .flags .opened)) where
+  pub code-open : o ≡ true → Shows s Missing (λ r. accessOf Code r p)
+  unfolding accessOf
+  code-open t r i e = rw (sym (shown r i e) ∙ t) refl
+
+  module _ (f : o ≡ false) where
+    pub code-used : 3 ≤ getD s atTries 0 → Shows s Missing (λ r. accessOf Code r p)
+    unfolding accessOf
+    code-used h r i e = rw (sym (shown r i e) ∙ f, le-leb 3 (r .tries) (omega (arith, tries-at s r e))) refl
+
+    module _ (h : getD s atTries 0 < 3) where
+      compared : (r : Record) → s ≡ bytesOf r → o ≡ r .flags .opened → accessOf Code r p ≡ cond (eqb (wordAt p 0) (r .code)) Given WrongCode
+      unfolding accessOf
+      compared r e q = rw (sym q ∙ f, lt-leb 3 (r .tries) (omega (arith, tries-at s r e))) refl
+
+      pub code-right : wordAt p 0 ≡ wordAt s atCode → Shows s Given (λ r. accessOf Code r p)
+      code-right q r i e =
+          let w : wordAt s atCode ≡ r .code = ap (λ (l : List ℕ). wordAt l atCode) e ∙ get-code r (i .code) in
+          rw (compared r e (shown r i e), eq-eqb (wordAt p 0) (r .code) (q ∙ w)) refl
+
+      pub code-wrong : (wordAt p 0 ≡ wordAt s atCode → ⊥) → Shows s WrongCode (λ r. accessOf Code r p)
+      code-wrong q r i e =
+          let w : wordAt s atCode ≡ r .code = ap (λ (l : List ℕ). wordAt l atCode) e ∙ get-code r (i .code) in
+          rw (compared r e (shown r i e), ne-eqb (wordAt p 0) (r .code) (λ z. q (z ∙ sym w))) refl
+
+-- ---- the verdict
+
+module _ (r : Record) (head number : ℕ) (p : List ℕ) where
+  pub by-number : (x : Listed) → ((c : Command) → x ≡ Built c → ⊥) → listedOf head number ≡ x → Refuse (numberRefusal x) ≡ verdictOf r head number p
+  by-number (Built c) h e = absurd (h c refl)
+  by-number NotBuilt h e = rw (verdict-is r head number p, e) refl
+  by-number Unlisted h e = rw (verdict-is r head number p, e) refl
+
+  module _ (c : Command) (l : listedOf head number ≡ Built c) where
+    pub by-count : countedOf c (length p) ≡ Wrong → Refuse Parameters ≡ verdictOf r head number p
+    by-count e = rw (verdict-is r head number p, l, e) refl
+
+    module _ (n : countedOf c (length p) ≡ Right) where
+      pub by-access : (x : Access) → (x ≡ Given → ⊥) → accessOf (needOf c) r p ≡ x → Refuse (accessRefusal x) ≡ verdictOf r head number p
+      by-access Given h e = absurd (h refl)
+      by-access Missing h e = rw (verdict-is r head number p, l, n, e) refl
+      by-access WrongCode h e = rw (verdict-is r head number p, l, n, e) refl
+
+      module _ (a : accessOf (needOf c) r p ≡ Given) where
+        pub by-range : (x : Range) → (x ≡ Fits → ⊥) → rangeOf c p ≡ x → Refuse (rangeRefusal x) ≡ verdictOf r head number p
+        by-range Fits h e = absurd (h refl)
+        by-range Big h e = rw (verdict-is r head number p, l, n, a, e) refl
+        by-range Small h e = rw (verdict-is r head number p, l, n, a, e) refl
+
+        pub by-none : rangeOf c p ≡ Fits → Do c ≡ verdictOf r head number p
+        by-none e = rw (verdict-is r head number p, l, n, a, e) refl

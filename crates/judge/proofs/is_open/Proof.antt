@@ -1,0 +1,13 @@
+use Rattle.judge.proofs.Checks.{opened-is}
+use borrow.Author.Needs.{needs}
+use Rattle.judge.proofs.is_open.Statement.{statement}
+use Rattle.judge.proofs.is_open.Tie as tie
+
+shared-slice-read-result : tie.Need-shared-slice-read-result
+shared-slice-read-result c = search needs
+
+returns : tie.Need-returns
+returns c = opened-is (c .before .args .rec .now)
+
+pub is-open-spec : {M : Type 1} → statement M
+is-open-spec = tie.close (tie.spec shared-slice-read-result returns)

@@ -1,0 +1,134 @@
+// The checks of a frame, in the order of the refusals: each answers an enum, and the first that does not pass decides.
+ghost use mathlib.Core.Path.{_≡_};
+ghost use Prim.Native.Nat.{_≤_};
+ghost use lib.ListN.{length};
+ghost use Rattle.record.specs.Place.{Shows};
+ghost use Rattle.command.specs.declared.Need.the-variants.{Code};
+ghost use Rattle.command.specs.Judge.{accessOf, verdictOf};
+ghost use Rattle.judge.specs.Checks.{asks, numberRefusal, accessRefusal, rangeRefusal};
+use command::Access;
+use command::Counted;
+use command::Listed;
+use command::Need;
+use command::Refusal;
+use command::Verdict;
+use range::check_range;
+use table::check_count;
+use table::check_number;
+use table::need_of;
+use wire::Range;
+use wire::numbers::word_at;
+
+fn is_open(rec: &[u8]) -> bool
+    requires { ⌜ length (now rec) ≡ 123 ⌝ }
+    ensures { λ r. ⌜ Shows (now (rec .entry)) r (λ b. b .flags .opened) ⌝ }
+{
+    rec[3] % 2 == 1
+}
+
+fn is_unlocked(rec: &[u8]) -> bool
+    requires { ⌜ length (now rec) ≡ 123 ⌝ }
+    ensures { λ r. ⌜ Shows (now (rec .entry)) r (λ b. b .flags .unlocked) ⌝ }
+{
+    rec[3] / 2 % 2 == 1
+}
+
+// The code is compared only with configuration mode closed and a try left.
+fn code_access(rec: &[u8], p: &[u8]) -> Access
+    requires { ⌜ (length (now rec) ≡ 123) × (4 ≤ length (now p)) ⌝ }
+    ensures { λ r. ⌜ Shows (now (rec .entry)) r (λ b. accessOf Code b (now (p .entry))) ⌝ }
+{
+    if is_open(rec) {
+        return Access::Missing;
+    }
+    if 3 <= rec[4] {
+        return Access::Missing;
+    }
+    if word_at(p, 0) == word_at(rec, 5) {
+        return Access::Given;
+    }
+    Access::WrongCode
+}
+
+// 62: what the command needs of the board.
+pub fn check_access(need: Need, rec: &[u8], p: &[u8]) -> Access
+    requires { ⌜ (length (now rec) ≡ 123) × (asks need ≤ length (now p)) ⌝ }
+    ensures { λ r. ⌜ Shows (now (rec .entry)) r (λ b. accessOf need b (now (p .entry))) ⌝ }
+{
+    match need {
+        Need::Nothing => Access::Given,
+        Need::Opened => if is_open(rec) {
+            Access::Given
+        } else {
+            Access::Missing
+        },
+        Need::Closed => if is_open(rec) {
+            Access::Missing
+        } else {
+            Access::Given
+        },
+        Need::Unlocked => {
+            if is_open(rec) {
+                return Access::Missing;
+            }
+            if is_unlocked(rec) {
+                Access::Given
+            } else {
+                Access::Missing
+            }
+        }
+        Need::Code => code_access(rec, p),
+    }
+}
+
+fn number_refusal(listed: Listed) -> Refusal
+    ensures { λ r. ⌜ r ≡ numberRefusal listed ⌝ }
+{
+    match listed {
+        Listed::Built(_) => Refusal::Unknown,
+        Listed::NotBuilt => Refusal::Unbuilt,
+        Listed::Unlisted => Refusal::Unknown,
+    }
+}
+
+fn access_refusal(access: Access) -> Refusal
+    ensures { λ r. ⌜ r ≡ accessRefusal access ⌝ }
+{
+    match access {
+        Access::Given => Refusal::NoAccess,
+        Access::Missing => Refusal::NoAccess,
+        Access::WrongCode => Refusal::BadCode,
+    }
+}
+
+fn range_refusal(range: Range) -> Refusal
+    ensures { λ r. ⌜ r ≡ rangeRefusal range ⌝ }
+{
+    match range {
+        Range::Fits => Refusal::TooBig,
+        Range::Big => Refusal::TooBig,
+        Range::Small => Refusal::TooSmall,
+    }
+}
+
+pub fn judge(rec: &[u8], head: u8, number: u8, p: &[u8]) -> Verdict
+    requires { ⌜ length (now rec) ≡ 123 ⌝ }
+    ensures { λ r. ⌜ Shows (now (rec .entry)) r (λ b. verdictOf b head number (now (p .entry))) ⌝ }
+{
+    let listed = check_number(head, number);
+    let Listed::Built(c) = listed else {
+        return Verdict::Refuse(number_refusal(listed));
+    };
+    let Counted::Right = check_count(c, p.len()) else {
+        return Verdict::Refuse(Refusal::Parameters);
+    };
+    let access = check_access(need_of(c), rec, p);
+    let Access::Given = access else {
+        return Verdict::Refuse(access_refusal(access));
+    };
+    let range = check_range(c, p);
+    let Range::Fits = range else {
+        return Verdict::Refuse(range_refusal(range));
+    };
+    Verdict::Do(c)
+}
