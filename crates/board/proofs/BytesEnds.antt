@@ -1,26 +1,24 @@
 -- Each way that the bytes call ends, as its outcome.
 use Prim.Native.Nat.{ℕ, _+_, _*_, _/_, _≤_, _<_}
-use mathlib.Core.Path.{_≡_, refl, sym, ap, _∙_}
+use mathlib.Core.Path.{_≡_, refl, _∙_}
 use mathlib.Core.List.{List, _++_}
 use native.Mathlib.Omega.{arith}
 use lib.ListN.{length, getD, length-append}
-use lib.Dec.{ltb}
 use borrow.Author.Tests.{lt-ltb, le-ltb}
-use Rattle.wire.specs.Numbers.{Bytes, put}
-use Rattle.wire.specs.Frames.{cut}
+use Rattle.wire.specs.Numbers.{Bytes}
 use Rattle.wire.specs.Serial.{serial}
 use Rattle.wire.specs.Replies.{written}
 use Rattle.wire.specs.Run.{hunt}
-use Rattle.wire.proofs.CutLaws.{sizes, conserved}
+use Rattle.wire.proofs.CutLaws.{conserved}
 use Rattle.wire.proofs.SerialLaws.{pending-short}
 use Rattle.record.specs.Record.{Record}
-use Rattle.record.specs.Layout.{bytesOf, recordOf}
-use Rattle.record.specs.Form.{InRange, formOf}
+use Rattle.record.specs.Layout.{recordOf}
+use Rattle.record.specs.Form.{formOf}
 use Rattle.record.specs.Place.{Sound}
 use Rattle.record.specs.declared.Form.the-variants.{Good, Bad}
-use Rattle.hunt.specs.Hunt.{huntOf, recordAfter}
+use Rattle.hunt.specs.Hunt.{huntOf}
 use Rattle.hunt.specs.Progress.{Serves}
-use Rattle.board.specs.Calls.{Outcome, zeroes, refused, done, served, bytesCall, Leaves, roomFor}
+use Rattle.board.specs.Calls.{zeroes, refused, served, bytesCall, Leaves, roomFor}
 use Rattle.board.specs.declared.Answer.{Answer}
 use Rattle.hunt.specs.declared.Served.{Served}
 use Rattle.board.specs.declared.Ending.the-variants.{BadRecord, BadLength, NoRoom}

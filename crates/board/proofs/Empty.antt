@@ -1,28 +1,24 @@
 -- An empty input that passes the checks is done: zero counts, and record and output as they were.
 use Prim.Native.Nat.{ℕ, _+_, _≤_}
-use mathlib.Core.Path.{_≡_, refl, sym, ap, _∙_}
-use mathlib.Core.Bool.{true, false}
-use mathlib.Core.List.{List, [], _++_, append-nil}
-use native.Mathlib.Nat.{add-zero}
-use native.Mathlib.Omega.{arith}
+use mathlib.Core.Path.{_≡_, refl, ap, _∙_}
+use mathlib.Core.Bool.{true}
+use mathlib.Core.List.{List, [], append-nil}
 use lib.ListN.{length}
-use lib.Dec.{ltb}
 use borrow.Author.Tests.{le-ltb}
-use Rattle.wire.specs.Numbers.{Bytes, put}
-use Rattle.wire.specs.Frames.{cut, stop}
+use Rattle.wire.specs.Numbers.{Bytes}
 use Rattle.wire.specs.Serial.{serial}
-use Rattle.wire.specs.Replies.{Reply, written}
-use Rattle.wire.specs.Run.{Hunted, runs, runCut, hunt}
+use Rattle.wire.specs.Replies.{written}
+use Rattle.wire.specs.Run.{runs, runCut, hunt}
 use Rattle.wire.proofs.CutLaws.{waits-cut}
 use Rattle.wire.proofs.PutLaws.{put-nil}
 use Rattle.record.specs.Record.{Record, withPending}
-use Rattle.record.specs.Layout.{bytesOf, recordOf}
+use Rattle.record.specs.Layout.{recordOf}
 use Rattle.record.specs.Form.{InRange, wellFormed}
 use Rattle.record.proofs.RoundTrip.{in-range, write-back}
 use Rattle.command.specs.Step.{answer}
 use Rattle.hunt.specs.Hunt.{huntOf, recordAfter}
 use Rattle.board.specs.declared.Ending.the-variants.{Done}
-use Rattle.board.specs.Calls.{Outcome, refused, served, roomFor, bytesCall}
+use Rattle.board.specs.Calls.{refused, roomFor, bytesCall}
 use Rattle.board.proofs.Unfolded.{bytes-by}
 use Rattle.board.proofs.Exit.{form-good}
 

@@ -1,19 +1,19 @@
 -- Each way that factory and power-on end, as its outcome.
 use Prim.Native.Nat.{ℕ}
 use mathlib.Core.Path.{_≡_, refl, sym, ap, _∙_}
-use mathlib.Core.Bool.{Bool, true, false, cond, _&&_}
+use mathlib.Core.Bool.{Bool, true, false}
 use mathlib.Core.List.{List, []}
 use native.Mathlib.Omega.{arith}
 use lib.ListN.{length}
 use lib.Dec.{eqb}
 use borrow.Author.Tests.{eq-eqb, ne-eqb, eqb-true}
-use Rattle.wire.specs.Numbers.{Bytes, put}
+use Rattle.wire.specs.Numbers.{Bytes}
 use Rattle.wire.proofs.PutLaws.{put-nil}
 use Rattle.peak.proofs.PairLaws.{both}
 use Rattle.record.specs.Layout.{recordSize, bytesOf, recordOf}
 use Rattle.record.specs.Form.{fieldsOf, allFine, wellFormed, formBy, formOf}
 use Rattle.record.specs.Births.{factory, poweredOn}
-use Rattle.record.specs.Place.{Holds, Sound, Turns}
+use Rattle.record.specs.Place.{Sound, Turns}
 use Rattle.record.specs.declared.Form.the-variants.{Good, Bad}
 use Rattle.record.proofs.RoundTrip.{in-range, write-back}
 use Rattle.board.specs.declared.Answer.{Answer}

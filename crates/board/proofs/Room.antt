@@ -1,13 +1,13 @@
 -- The room that result 3 asks for is enough for all replies of a call.
-use Prim.Native.Nat.{ℕ, zero, suc, _+_, _*_, _/_, _≤_}
-use mathlib.Core.Path.{_≡_, refl, sym, ap, _∙_}
-use mathlib.Core.List.{List, [], _∷_, _++_, append-nil}
+use Prim.Native.Nat.{ℕ, _+_, _*_, _≤_}
+use mathlib.Core.Path.{_≡_, refl}
+use mathlib.Core.List.{List, [], _∷_, _++_}
 use native.Mathlib.Omega.{arith}
 use lib.ListN.{length, length-append}
 use Rattle.wire.specs.Numbers.{Bytes}
 use Rattle.wire.specs.Frames.{Piece, Whole, Broken, cut}
 use Rattle.wire.specs.Serial.{serial}
-use Rattle.wire.specs.Replies.{Reply, replyBytes, written}
+use Rattle.wire.specs.Replies.{written}
 use Rattle.wire.specs.Run.{runs, hunt}
 use Rattle.wire.proofs.NumberLaws.{bytes-append}
 use Rattle.wire.proofs.CutLaws.{All, sizes, frames, conserved}

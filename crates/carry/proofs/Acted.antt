@@ -1,25 +1,24 @@
 -- One frame judged and carried out, from what its parts promise.
 use Prim.Native.Nat.{ℕ, _+_, _-_, _≤_}
 use mathlib.Core.Path.{_≡_, refl, sym, ap, _∙_}
-use mathlib.Core.Bool.{true}
 use mathlib.Core.List.{List, []}
 use native.Mathlib.Omega.{arith}
 use lib.ListN.{length, getD, take, drop}
 use Rattle.wire.specs.Numbers.{Bytes, put}
-use Rattle.wire.specs.Serial.{isHead, headOf, numberOf, paramsOf}
+use Rattle.wire.specs.Serial.{headOf, numberOf, paramsOf}
 use Rattle.wire.specs.Replies.{Reply, kindOf, replyBytes, around}
 use Rattle.wire.specs.declared.Range.the-variants.{Fits}
 use Rattle.wire.proofs.PutLaws.{put-nil}
 use Rattle.wire.proofs.ReplyLaws.{length-reply, closed-reply}
 use Rattle.record.specs.Record.{Record}
 use Rattle.record.specs.Layout.{bytesOf, recordOf}
-use Rattle.record.specs.Place.{Holds, Sound, Turns, Shows}
+use Rattle.record.specs.Place.{Sound, Turns, Shows}
 use Rattle.record.proofs.PlaceLaws.{holds-is, turn-holds}
 use Rattle.record.proofs.Lens.{get-tries}
 use Rattle.command.specs.Tables.{countedOf, needOf, rangeOf}
 use Rattle.command.specs.Effects.{effectOf, dataOf}
 use Rattle.command.specs.Judge.{statusOf, verdictOf}
-use Rattle.command.specs.Step.{leftBy, Step, settled, stepOf}
+use Rattle.command.specs.Step.{leftBy, Step, stepOf}
 use Rattle.command.specs.declared.Command.{Command}
 use Rattle.command.specs.declared.Counted.the-variants.{Right}
 use Rattle.command.specs.declared.Refusal.{Refusal}

@@ -1,12 +1,12 @@
 -- Every command leaves a record in range and the pending bytes alone, and its reply fits a frame.
 use Prim.Native.Nat.{ℕ, zero, suc, _+_, _-_, _≤_, _<_, zero-le}
-use mathlib.Core.Path.{_≡_, refl, ap, _∙_}
+use mathlib.Core.Path.{_≡_, refl, _∙_}
 use mathlib.Core.Bool.{Bool, true, false, cond, _&&_}
 use mathlib.Core.List.{List, [], _∷_, _++_}
 use native.Mathlib.Nat.{le-trans}
 use native.Mathlib.Omega.{arith}
 use borrow.Author.Tests.{leb-true, leb-false, ltb-true}
-use lib.ListN.{length, getD, take, drop, set, length-set, length-append}
+use lib.ListN.{length, getD, drop, set, length-set, length-append}
 use Rattle.wire.proofs.NumberLaws.{bytes-take, bytes-drop}
 use Rattle.record.proofs.Parts.{cut-le, cut-cut, cut-bytes}
 use lib.Dec.{ltb, leb}

@@ -2,13 +2,13 @@
 use Prim.Native.Nat.{ℕ, _/_}
 use mathlib.Core.Bool.{Bool, true, false, cond, _&&_}
 use mathlib.Core.List.{List, [], _∷_}
-use lib.ListN.{length, getD}
-use lib.Dec.{ltb, leb, eqb}
+use lib.ListN.{getD}
+use lib.Dec.{leb, eqb}
 use lib.IntN.{pos}
 use Rattle.wire.specs.Numbers.{halfAt, wordAt, signed8}
 use Rattle.wire.specs.Ranges.{within, unsigned, also}
 use Rattle.wire.specs.declared.Range.{Range}
-use Rattle.wire.specs.declared.Range.the-variants.{Fits, Big, Small}
+use Rattle.wire.specs.declared.Range.the-variants.{Fits}
 use Rattle.record.specs.Limits.{powerRange, stepRange, modeRange, onOffRange, inputRange, intervalRange, filterRange, nameRange}
 use Rattle.command.specs.declared.Command.{Command}
 use Rattle.command.specs.declared.Command.the-variants.{Open, Close, ReadPower, SetPower, ReadStep, SetStep, ReadMode, SetMode, ReadName, SetName, ReadOnOff, SetOnOff, SetInput, ReadInput, SwitchOutput, SetInterval, ReadInterval, Unlock, ReadLock, ReadModel, SetModel, StopSending, StartSending, ReadFilter, SetFilter, ReadPair}

@@ -2,18 +2,16 @@
 use Prim.Native.Nat.{ℕ, _+_, _-_, _*_, _/_, _≤_, _<_}
 use mathlib.Core.Path.{_≡_, refl, sym, ap, _∙_, subst}
 use mathlib.Core.List.{List, _++_}
-use mathlib.Core.Logic.{_⊎_}
-use native.Mathlib.Nat.{zero-add}
 use native.Mathlib.Omega.{arith}
 use lib.ListN.{length, getD, take, drop, length-append, length-drop}
 use lib.Seq.{take-at, take-all, length-take-le, take-take}
-use Rattle.wire.specs.Numbers.{put, bytesAt}
+use Rattle.wire.specs.Numbers.{put}
 use Rattle.wire.proofs.NumberLaws.{part-is}
-use Rattle.wire.proofs.PutLaws.{put-put, put-zero, length-put}
+use Rattle.wire.proofs.PutLaws.{put-put, put-zero}
 use Rattle.wire.proofs.SerialLaws.{pending-short}
 use Rattle.record.specs.Record.{Record, withPending}
-use Rattle.record.specs.Layout.{bytesOf, recordOf}
-use Rattle.record.specs.Place.{Holds, Sound, Turns}
+use Rattle.record.specs.Layout.{recordOf}
+use Rattle.record.specs.Place.{Sound, Turns}
 use Rattle.record.proofs.PlaceLaws.{holds-long}
 use Rattle.record.proofs.Lens.{get-pending-length}
 use Rattle.record.proofs.Fine.{drop-take}
@@ -21,7 +19,7 @@ use Rattle.hunt.specs.Progress.{Hunts, Rests, Joins, Serves}
 use Rattle.hunt.specs.declared.Progress.{Progress}
 use Rattle.hunt.proofs.SofarLaws.{stopped}
 use Rattle.hunt.proofs.GoingLaws.{going-kept}
-use Rattle.hunt.proofs.ServeLaws.{halted-short, head-short, serves-head, rest-starts, rest-room, rest-short, serves-rest}
+use Rattle.hunt.proofs.ServeLaws.{halted-short, head-short, serves-head, rest-starts, rest-room, serves-rest}
 
 abbrev reached : List ℕ → ℕ
 reached i = length i - (length i - 19)

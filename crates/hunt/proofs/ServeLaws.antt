@@ -1,7 +1,7 @@
 -- A bytes call that passed its checks: first the candidates that start in the pending bytes, then the input itself.
-use Prim.Native.Nat.{ℕ, zero, suc, _+_, _-_, _*_, _/_, _≤_, _<_}
+use Prim.Native.Nat.{ℕ, _+_, _-_, _*_, _/_, _≤_, _<_}
 use mathlib.Core.Path.{_≡_, refl, sym, ap, _∙_, subst}
-use mathlib.Core.List.{List, [], _++_, append-assoc}
+use mathlib.Core.List.{List, _++_, append-assoc}
 use mathlib.Core.Logic.{_⊎_, ⊎-elim}
 use native.Mathlib.Nat.{zero-add}
 use native.Mathlib.Omega.{arith}
@@ -11,7 +11,7 @@ use Rattle.wire.specs.Numbers.{put}
 use Rattle.wire.specs.Frames.{look, Wait, cut}
 use Rattle.wire.specs.Serial.{serial}
 use Rattle.wire.specs.Replies.{Reply, written}
-use Rattle.wire.specs.Run.{Hunted, runs, hunt, halt, ahead}
+use Rattle.wire.specs.Run.{Hunted, hunt, halt, ahead}
 use Rattle.wire.proofs.CutLaws.{wait-short}
 use Rattle.wire.proofs.SerialLaws.{serial-steady, serial-under, waiting-short}
 use Rattle.wire.proofs.PutLaws.{put-put, length-put}
@@ -19,11 +19,11 @@ use Rattle.wire.proofs.ReplyLaws.{written-append}
 use Rattle.wire.proofs.RunLaws.{hunt-wait, hunt-further}
 use Rattle.record.specs.Record.{Record, withPending}
 use Rattle.record.specs.Layout.{bytesOf, recordOf}
-use Rattle.record.specs.Place.{Holds, Turns}
+use Rattle.record.specs.Place.{Turns}
 use Rattle.record.proofs.PlaceLaws.{holds-is}
 use Rattle.command.specs.Step.{answer}
 use Rattle.hunt.specs.Hunt.{huntFrom, huntOf, recordAfter}
-use Rattle.hunt.specs.Progress.{Along, Sofar, Going, Hunts, Serves}
+use Rattle.hunt.specs.Progress.{Along, Hunts, Serves}
 use Rattle.hunt.specs.declared.Progress.{Progress}
 use Rattle.hunt.proofs.SofarLaws.{along-end, stopped}
 

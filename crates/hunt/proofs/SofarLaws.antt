@@ -1,25 +1,23 @@
 -- How the hunting code gets on: start, bytes passed, a broken head, a frame, the end.
-use Prim.Native.Nat.{ℕ, zero, suc, _+_, _-_, _*_, _/_, _≤_, _<_}
+use Prim.Native.Nat.{ℕ, _+_, _-_, _*_, _/_, _≤_}
 use mathlib.Core.Path.{_≡_, refl, sym, ap, _∙_}
 use mathlib.Core.List.{List, [], _∷_, _++_, append-nil}
 use mathlib.Core.Logic.{_⊎_, ⊎-elim}
-use mathlib.Core.Bool.{true}
-use native.Mathlib.Nat.{zero-add, add-zero, add-assoc}
+use native.Mathlib.Nat.{add-zero, add-assoc}
 use native.Mathlib.Omega.{arith}
-use lib.ListN.{length, getD, take, drop, length-append, length-drop, drop-of-length-le}
-use lib.Seq.{drop-drop, length-take-le}
-use Rattle.wire.specs.Numbers.{Bytes, put}
-use Rattle.wire.specs.Frames.{look, Wait, Take, Tear, Whole}
-use Rattle.wire.specs.Serial.{serial, isHead, headOf}
+use lib.ListN.{length, take, drop, length-append, length-drop, drop-of-length-le}
+use lib.Seq.{drop-drop}
+use Rattle.wire.specs.Numbers.{put}
+use Rattle.wire.specs.Frames.{look, Wait, Take, Tear}
+use Rattle.wire.specs.Serial.{serial}
 use Rattle.wire.specs.Finder.{Passed, Finds}
 use Rattle.wire.specs.Replies.{Reply, replyBytes, written}
-use Rattle.wire.specs.Run.{Hunted, hunt, halt, ahead}
+use Rattle.wire.specs.Run.{hunt, halt, ahead}
 use Rattle.wire.specs.declared.Found.{Found}
 use Rattle.wire.specs.declared.Seen.the-variants.{Frame, Torn, Nothing}
 use Rattle.wire.proofs.CutLaws.{take-room, tear-room}
-use Rattle.wire.proofs.SerialLaws.{Fair, fair-whole}
 use Rattle.wire.proofs.PutLaws.{put-nil, put-put, length-put}
-use Rattle.wire.proofs.ReplyLaws.{written-append, written-one, length-none}
+use Rattle.wire.proofs.ReplyLaws.{written-append, written-one}
 use Rattle.wire.proofs.RunLaws.{ahead-none, ahead-ahead, hunt-nil, hunt-wait, hunt-pass, hunt-take, hunt-tear}
 use Rattle.record.specs.Record.{Record}
 use Rattle.command.specs.Step.{stepOf, answer}

@@ -1,7 +1,6 @@
 -- The board's hunt: the pending bytes and the input, cut by 9n and An, each frame carried out on the record that the one before it left.
 use Prim.Native.Nat.{ℕ}
-use mathlib.Core.List.{List, [], _++_}
-use Rattle.wire.specs.Frames.{Heads}
+use mathlib.Core.List.{List, _++_}
 use Rattle.wire.specs.Serial.{serial}
 use Rattle.wire.specs.Replies.{Reply}
 use Rattle.wire.specs.Run.{Hunted, hunt}

@@ -8,7 +8,7 @@ use Rattle.wire.specs.Numbers.{put}
 use Rattle.wire.specs.Frames.{look, Wait}
 use Rattle.wire.specs.Serial.{serial}
 use Rattle.wire.specs.Replies.{Reply, written}
-use Rattle.wire.specs.Run.{Hunted, hunt, ahead}
+use Rattle.wire.specs.Run.{hunt, ahead}
 use Rattle.record.specs.Record.{Record, withPending}
 use Rattle.record.specs.Layout.{bytesOf}
 use Rattle.record.specs.Place.{Holds, Turns}

@@ -1,20 +1,17 @@
 -- What each check of the code finds is what the judge's definitions say.
 use Prim.Native.Nat.{ℕ, _-_, _/_, _%_, _≤_, _<_, zero-le}
 use mathlib.Core.Path.{_≡_, refl, sym, ap, _∙_}
-use mathlib.Core.Bool.{Bool, true, false, cond, _&&_}
-use mathlib.Core.List.{List, [], _∷_}
+use mathlib.Core.Bool.{Bool, true, false, cond}
+use mathlib.Core.List.{List}
 use native.Mathlib.Nat.{le-refl, le-trans}
 use native.Mathlib.Omega.{arith}
-use borrow.Author.Tests.{le-leb, lt-leb, eq-eqb, ne-eqb, leb-true}
-use lib.ListN.{length, getD, take, drop}
-use lib.Seq.{take-all}
-use lib.Dec.{leb, eqb}
+use borrow.Author.Tests.{le-leb, lt-leb, eq-eqb, ne-eqb}
+use lib.ListN.{length, getD}
+use lib.Dec.{eqb}
 use Rattle.wire.specs.Numbers.{wordAt}
-use Rattle.wire.specs.Ranges.{fits, also}
 use Rattle.wire.specs.declared.Range.{Range}
 use Rattle.wire.specs.declared.Range.the-variants.{Fits, Big, Small}
 use Rattle.record.specs.Record.{Record}
-use Rattle.record.specs.Limits.{nameRange}
 use Rattle.record.specs.Layout.{atFlags, atTries, atCode, flagsByte, bytesOf, bitOf}
 use Rattle.record.specs.Place.{Shows}
 use Rattle.record.proofs.Choices.{bits-back}
@@ -29,7 +26,7 @@ use Rattle.command.specs.declared.Access.{Access}
 use Rattle.command.specs.declared.Access.the-variants.{Given, Missing, WrongCode}
 use Rattle.command.specs.declared.Verdict.the-variants.{Do, Refuse}
 use Rattle.command.specs.declared.Refusal.the-variants.{Parameters}
-use Rattle.command.specs.Tables.{Row, lookUp, listedOf, spanOf, countedOf, countedBy, needOf, rangeOf}
+use Rattle.command.specs.Tables.{listedOf, spanOf, countedOf, needOf, rangeOf}
 use Rattle.command.specs.Judge.{accessOf, verdictOf}
 use Rattle.judge.specs.Checks.{asks, numberRefusal, accessRefusal, rangeRefusal}
 use Rattle.command.proofs.Refused.{verdict-is}

@@ -3,11 +3,10 @@ use Prim.Native.Nat.{ℕ, zero, suc, _+_, _*_, _≤_, _<_}
 use mathlib.Core.Path.{_≡_, refl, sym, ap, _∙_}
 use mathlib.Core.Bool.{Bool, true, false, cond, _&&_}
 use mathlib.Core.List.{List, [], _∷_}
-use native.Mathlib.Nat.{add-zero, add-assoc}
 use native.Mathlib.Omega.{arith}
 use lib.ListN.{length, getD}
-use lib.Dec.{ltb, leb}
-use borrow.Author.Tests.{le-leb, leb-true, ltb-true, ltb-false}
+use lib.Dec.{leb}
+use borrow.Author.Tests.{le-leb, leb-true, ltb-true}
 use Rattle.wire.specs.Numbers.{wordAt}
 use Rattle.peak.specs.Pairs.{finite, key, less, Pair, noPair, seen, seenAll, allFinite, pairFits}
 

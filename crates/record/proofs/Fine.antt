@@ -5,7 +5,7 @@ use mathlib.Core.Bool.{Bool, true, false, _&&_, and-assoc, and-true}
 use mathlib.Core.List.{List, [], _∷_, _++_}
 use native.Mathlib.Nat.{sub-zero, suc-sub-suc, zero-sub}
 use native.Mathlib.Omega.{arith}
-use lib.ListN.{length, getD, take, drop, length-drop}
+use lib.ListN.{length, getD, take, drop}
 use lib.Seq.{take-take, take-nil, drop-drop}
 use lib.Dec.{leb, eqb}
 use borrow.Author.Tests.{lt-leb, le-leb, eq-eqb, ne-eqb}
@@ -16,9 +16,8 @@ use Rattle.wire.specs.Serial.{serial}
 use Rattle.wire.proofs.NumberLaws.{part-is}
 use Rattle.record.specs.Limits.{nameRange, beforeZero}
 use Rattle.record.specs.Form.{Field, allZero, zerosBehind, partFits, allFine, headFields, radioFields, inputFields, switchFields, nameFields, modelFields, pendingFields, pairFields, groupsOf, join, wellFormed, formBy, formOf}
-use Rattle.record.specs.declared.Form.{Form}
 use Rattle.record.specs.declared.Form.the-variants.{Good, Bad}
-use Rattle.record.proofs.Parts.{behind-is, cut-le}
+use Rattle.record.proofs.Parts.{behind-is}
 use Rattle.record.proofs.Scan.{part}
 
 pub drop-take : (a b : ℕ) (l : List ℕ) → drop a (take b l) ≡ take (b - a) (drop a l)

@@ -1,16 +1,15 @@
 -- Scans over the bytes from a place up to another, one byte at a time.
 use Prim.Native.Nat.{ℕ, zero, suc, _+_, _-_, _≤_, _<_}
-use mathlib.Core.Path.{_≡_, refl, sym, ap, _∙_}
-use mathlib.Core.Bool.{Bool, true, false, cond, _&&_}
+use mathlib.Core.Path.{_≡_, refl}
+use mathlib.Core.Bool.{true, false}
 use mathlib.Core.List.{List, [], _∷_}
 use native.Mathlib.Numerals.{add-one}
 use native.Mathlib.Omega.{arith}
 use lib.ListN.{length, getD, take, drop}
 use lib.Seq.{drop-cons}
-use lib.Dec.{leb, eqb}
 use borrow.Author.Tests.{eq-eqb, ne-eqb, le-leb, lt-leb}
-use Rattle.wire.specs.Ranges.{fits, also}
-use Rattle.record.specs.Limits.{nameByte, nameRange, beforeZero}
+use Rattle.wire.specs.Ranges.{fits}
+use Rattle.record.specs.Limits.{nameRange, beforeZero}
 use Rattle.record.specs.Form.{allZero}
 
 abbrev pub part : List ℕ → ℕ → ℕ → List ℕ

@@ -1,14 +1,14 @@
 -- What the code tests of a byte or a word is what its range asks.
-use Prim.Native.Nat.{ℕ, zero, suc, _+_, _-_, _≤_, _<_}
-use mathlib.Core.Path.{_≡_, refl, sym, _∙_}
+use Prim.Native.Nat.{ℕ, zero, suc, _-_, _≤_, _<_}
+use mathlib.Core.Path.{_≡_, refl, sym}
 use mathlib.Core.Bool.{Bool, true, false, cond, _&&_, _||_}
 use mathlib.Core.Logic.{_⊎_, inl, inr}
 use native.Mathlib.Nat.{eq-or-lt-of-le}
 use native.Mathlib.Omega.{arith}
 use lib.Dec.{ltb, leb, eqb}
-use lib.IntN.{ℤ, pos, negsuc}
-use borrow.Author.Tests.{ltb-true, ltb-false, leb-true, leb-false, lt-ltb, le-ltb, lt-leb, le-leb}
-use Rattle.wire.specs.Numbers.{signed8, signed16}
+use lib.IntN.{pos, negsuc}
+use borrow.Author.Tests.{ltb-true, ltb-false, leb-true, leb-false, lt-ltb, le-ltb, lt-leb}
+use Rattle.wire.specs.Numbers.{signed8}
 use Rattle.wire.specs.Ranges.{fits, within}
 use Rattle.wire.specs.declared.Range.the-variants.{Fits, Big}
 use Rattle.peak.proofs.PairLaws.{both}

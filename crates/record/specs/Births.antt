@@ -4,7 +4,7 @@ use mathlib.Core.Bool.{true, false}
 use mathlib.Core.List.{List, [], _∷_}
 use lib.ListN.{replicate}
 use Rattle.peak.specs.Pairs.{Pair, noPair}
-use Rattle.record.specs.Record.{Flags, Outputs, Settings, Record}
+use Rattle.record.specs.Record.{Flags, Outputs, Record}
 use Rattle.record.specs.Layout.{channels}
 
 -- `GSV-6BT_dev`

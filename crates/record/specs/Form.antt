@@ -1,7 +1,7 @@
 -- Which bytes are a board record: its fields in record order, each with its place and whether it is as it has to be.
 use Prim.Native.Nat.{ℕ, zero, suc, _+_, _<_, _≤_}
 use mathlib.Core.Path.{_≡_}
-use mathlib.Core.Bool.{Bool, true, false, cond, _&&_}
+use mathlib.Core.Bool.{Bool, true, false, _&&_}
 use mathlib.Core.List.{List, [], _∷_, _++_}
 use lib.ListN.{length, getD, take, drop}
 use lib.Dec.{ltb, leb, eqb}
@@ -10,7 +10,7 @@ use Rattle.wire.specs.Ranges.{fits}
 use Rattle.wire.specs.Frames.{look, waits}
 use Rattle.wire.specs.Serial.{serial}
 use Rattle.wire.specs.declared.Range.the-variants.{Fits}
-use Rattle.peak.specs.Pairs.{Pair, noPair, pairFits, pairAt, key}
+use Rattle.peak.specs.Pairs.{noPair, pairFits, pairAt, key}
 use Rattle.record.specs.Record.{Record}
 use Rattle.record.specs.Limits.{powerRange, stepRange, modeRange, onOffRange, inputRange, intervalRange, filterRange, nameRange, beforeZero}
 use Rattle.record.specs.Layout.{recordSize, version, channels, pendingRoom, atVersion, atFlags, atTries, atPower, atStep, atMode, atOnOff, atInputs, atOutputs, atInterval, atFilter, atName, atModel, atPending, atPairs, bitOf}

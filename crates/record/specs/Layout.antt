@@ -1,12 +1,12 @@
 -- The 123 bytes of a record: the place of each field, the bytes of a record value, and the value that bytes stand for.
-use Prim.Native.Nat.{ℕ, zero, suc, _+_, _*_, _/_, _%_}
+use Prim.Native.Nat.{ℕ, zero, _+_, _*_, _/_, _%_}
 use mathlib.Core.Bool.{Bool, true, false}
-use mathlib.Core.List.{List, [], _∷_, _++_}
+use mathlib.Core.List.{List, _∷_, _++_}
 use lib.ListN.{length, getD, take}
 use lib.Dec.{eqb}
 use Rattle.wire.specs.Numbers.{halfAt, wordAt, bytes2, bytes4, bytesAt}
-use Rattle.peak.specs.Pairs.{Pair, pairsAt, pairsBytes}
-use Rattle.record.specs.Record.{Flags, Outputs, Settings, Record}
+use Rattle.peak.specs.Pairs.{pairsAt, pairsBytes}
+use Rattle.record.specs.Record.{Flags, Outputs, Record}
 use Rattle.record.specs.Limits.{beforeZero}
 
 abbrev pub recordSize : ℕ

@@ -1,14 +1,14 @@
 -- Laws of the cut, for any set of heads: each decision as an equation, conservation, packets, what waits.
 use Prim.Native.Nat.{ℕ, zero, suc, _+_, _≤_, _<_}
-use mathlib.Core.Path.{_≡_, refl, sym, ap, _∙_}
+use mathlib.Core.Path.{_≡_, refl, ap, _∙_}
 use mathlib.Core.List.{List, [], _∷_, _++_}
 use mathlib.Core.Bool.{Bool, true, false, _||_}
 use native.Mathlib.Nat.{zero-add, add-assoc}
 use native.Mathlib.Omega.{arith}
-use lib.ListN.{length, getD, take, drop, length-append, length-drop, List·getD-append}
+use lib.ListN.{length, getD, take, drop, length-append, List·getD-append}
 use lib.Seq.{take-append-le, length-take-le}
 use lib.Dec.{leb, eqb}
-use borrow.Author.Tests.{leb-false, leb-true, le-leb, lt-leb, eqb-true}
+use borrow.Author.Tests.{leb-false, leb-true, le-leb, eqb-true}
 use Rattle.wire.specs.Numbers.{Bytes}
 use Rattle.wire.specs.Frames.{Size, NoHead, NeedMore, Of, Heads, Look, Skip, Wait, Take, Tear, settle, weigh, look, Piece, Whole, Broken, Cut, stop, skipOne, carryOut, tearOne, onward, cutFrom, cut, isWait, waits}
 

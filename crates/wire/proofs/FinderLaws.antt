@@ -4,19 +4,18 @@ use mathlib.Core.Path.{_≡_, refl, sym, ap, _∙_}
 use mathlib.Core.Logic.{_⊎_, ⊎-elim}
 use mathlib.Core.List.{List}
 use mathlib.Core.Bool.{Bool, true, false, not, cond, _&&_}
-use native.Mathlib.Nat.{zero-add, add-zero, add-assoc, add-suc}
-use native.Mathlib.Numerals.{add-one}
+use native.Mathlib.Nat.{zero-add, add-zero, add-assoc}
 use native.Mathlib.Omega.{arith}
-use lib.ListN.{length, getD, take, drop, length-drop}
+use lib.ListN.{length, getD, drop, length-drop}
 use lib.Seq.{getD-drop, drop-drop}
-use lib.Dec.{ltb, leb, eqb}
-use borrow.Author.Tests.{eq-eqb, ne-eqb, lt-ltb, le-ltb, le-leb, lt-leb, leb-true, eqb-true, eqb-false, not-true}
-use Rattle.wire.specs.Frames.{Look, Skip, Wait, Take, Tear, look, skipOne, cut}
-use Rattle.wire.specs.Serial.{Fixed, Bad, isHead, serialHead, serial, sixLines}
-use Rattle.wire.specs.Finder.{announcedBy, announcedOf, quiet, skips, Passed, Reaches, Finds}
+use lib.Dec.{eqb}
+use borrow.Author.Tests.{eq-eqb, ne-eqb, lt-ltb, le-ltb, le-leb, lt-leb, eqb-false, not-true}
+use Rattle.wire.specs.Frames.{Skip, Wait, Take, Tear, look, skipOne, cut}
+use Rattle.wire.specs.Serial.{Fixed, Bad, isHead, serial}
+use Rattle.wire.specs.Finder.{announcedBy, announcedOf, quiet, Passed, Reaches, Finds}
 use Rattle.wire.specs.declared.Announced.the-variants.{Params, NoFrame}
 use Rattle.wire.specs.declared.Seen.{Seen}
-use Rattle.wire.specs.declared.Seen.the-variants.{Frame, Torn, Nothing}
+use Rattle.wire.specs.declared.Seen.the-variants.{Nothing}
 use Rattle.wire.proofs.CutLaws.{cut-skip}
 use Rattle.wire.proofs.SerialLaws.{look-lines}
 

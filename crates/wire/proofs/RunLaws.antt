@@ -1,12 +1,12 @@
 -- Laws of a hunt, for any heads and any board: each decision as an equation, packets, and two boards that agree.
-use Prim.Native.Nat.{ℕ, zero, suc, _+_}
+use Prim.Native.Nat.{ℕ, _+_}
 use mathlib.Core.Path.{_≡_, refl, sym, ap, ap₂, _∙_}
 use mathlib.Core.List.{List, [], _∷_, _++_, append-assoc}
 use native.Mathlib.Nat.{zero-add, add-assoc}
-use lib.ListN.{length, getD, take, drop}
-use Rattle.wire.specs.Frames.{Heads, Look, Skip, Wait, Take, Tear, look, Piece, Whole, Broken, Cut, cut}
+use lib.ListN.{getD, take, drop}
+use Rattle.wire.specs.Frames.{Heads, Wait, Take, Tear, look, Piece, Whole, Broken, cut}
 use Rattle.wire.specs.Finder.{skips}
-use Rattle.wire.specs.Run.{Run, runs, Hunted, runCut, hunt, halt, ahead}
+use Rattle.wire.specs.Run.{Run, runs, Hunted, hunt, halt, ahead}
 use Rattle.wire.proofs.CutLaws.{Steady, All, cut-wait, cut-take, cut-tear, packets}
 
 module _ (S A : Type 0) where

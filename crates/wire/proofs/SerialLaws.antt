@@ -1,14 +1,14 @@
 -- Heads that the byte behind the AA makes known are steady; the board's are 9n and An, and its look is the six lines.
-use Prim.Native.Nat.{ℕ, zero, suc, _+_, _-_, _%_, _≤_, _<_}
-use mathlib.Core.Path.{_≡_, refl, sym, ap, _∙_}
-use mathlib.Core.List.{List, [], _∷_, _++_}
+use Prim.Native.Nat.{ℕ, _+_, _-_, _%_, _≤_, _<_}
+use mathlib.Core.Path.{_≡_, refl, sym, _∙_}
+use mathlib.Core.List.{List, _++_}
 use mathlib.Core.Bool.{Bool, true, false, cond, not, _&&_, _||_}
 use native.Mathlib.Omega.{arith}
 use lib.ListN.{length, getD, take, drop, length-append, List·getD-append}
 use lib.Seq.{getD-take, length-take-le}
 use lib.Dec.{ltb, leb, eqb}
 use borrow.Author.Tests.{ltb-true, ltb-false, lt-ltb, le-ltb, leb-true, leb-false, eq-eqb, ne-eqb}
-use Rattle.wire.specs.Frames.{Size, NoHead, NeedMore, Of, Heads, Take, look, Piece, Whole, Broken, cut, isWait, waits}
+use Rattle.wire.specs.Frames.{NeedMore, Of, Heads, Take, look, Piece, Whole, Broken, cut, isWait, waits}
 use Rattle.wire.specs.Numbers.{Bytes}
 use Rattle.wire.specs.Serial.{Head, Bad, Fixed, front, fronted, isHead, serialHead, closed, serial, sixLines, headOf}
 use Rattle.wire.proofs.NumberLaws.{bytes-take, bytes-drop}

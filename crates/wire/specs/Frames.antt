@@ -1,7 +1,7 @@
 -- How a stream of bytes is cut into frames, broken heads, skipped bytes and waiting bytes, for any set of heads.
 use Prim.Native.Nat.{ℕ, zero, suc, _+_}
 use mathlib.Core.List.{List, [], _∷_}
-use mathlib.Core.Bool.{Bool, true, false, not, _||_}
+use mathlib.Core.Bool.{Bool, true, false, _||_}
 use lib.ListN.{length, getD, take}
 use lib.Dec.{leb, eqb}
 

@@ -2,7 +2,7 @@
 use Prim.Native.Nat.{ℕ}
 use mathlib.Core.Path.{_≡_}
 use mathlib.Core.List.{List, [], _∷_}
-use Rattle.wire.specs.Frames.{Piece, Whole, Broken, Cut, cut}
+use Rattle.wire.specs.Frames.{Whole, Broken, Cut, cut}
 use Rattle.wire.specs.Serial.{serial}
 
 pub record Row : Type 0 where

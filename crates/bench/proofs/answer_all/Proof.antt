@@ -1,5 +1,4 @@
 use native.Mathlib.Omega.{arith}
-use Prim.Native.Nat.{ℕ}
 use mathlib.Core.Path.{_≡_, refl}
 use lib.ListN.{length}
 use Rattle.bench.proofs.answer_all.Statement.{statement}

@@ -2,7 +2,7 @@ use native.Mathlib.Omega.{arith}
 use Rattle.board.proofs.Ends.{good-long, good-sound}
 use Rattle.hunt.proofs.JoinLaws.{held-is, held-few}
 use Rattle.board.proofs.BytesEnds.{served-small, bytes-bad-record, bytes-bad-length, bytes-no-room, bytes-done}
-use mathlib.Core.Path.{_≡_, refl, sym, _∙_}
+use mathlib.Core.Path.{refl, sym, _∙_}
 use borrow.Author.Needs.{needs}
 use Rattle.board.proofs.board_bytes.Statement.{statement}
 use Rattle.board.proofs.board_bytes.Tie as tie

@@ -1,6 +1,5 @@
 use native.Mathlib.Omega.{arith}
 use Rattle.carry.proofs.Acted.{may-do, acts-do, may-count, acts-refuse}
-use mathlib.Core.Path.{sym, ap, _∙_}
 use Rattle.record.proofs.PlaceLaws.{holds-long}
 use borrow.Author.Needs.{needs}
 use Rattle.carry.proofs.act.Statement.{statement}

@@ -1,6 +1,5 @@
 use native.Mathlib.Omega.{arith}
 use Rattle.carry.proofs.Acted.{may-answer, carries-do, carries-refuse}
-use mathlib.Core.Path.{sym, ap, _∙_}
 use Rattle.record.proofs.PlaceLaws.{holds-sound}
 use borrow.Author.Needs.{needs}
 use Rattle.carry.proofs.carry.Statement.{statement}

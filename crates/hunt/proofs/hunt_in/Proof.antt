@@ -5,8 +5,8 @@ use Rattle.hunt.specs.Progress.{Going}
 use Rattle.hunt.proofs.SofarLaws.{shown-frame, shown-torn, shown-nothing, found-room}
 use Rattle.hunt.proofs.GoingLaws.{going-start, going-sound, going-kept, going-pass, going-tear, going-long, going-room, going-carried, going-frame}
 use borrow.Author.Needs.{needs}
-use Prim.Native.Nat.{ℕ, _+_, _-_, _≤_}
-use mathlib.Core.Path.{_≡_, sym, _∙_}
+use Prim.Native.Nat.{_+_, _-_}
+use mathlib.Core.Path.{sym, _∙_}
 use mathlib.Core.Logic.{inl}
 use lib.ListN.{length}
 use Rattle.hunt.proofs.hunt_in.Statement.{statement}

@@ -1,5 +1,4 @@
 use Rattle.hunt.proofs.JoinLaws.{rests-kept, rests-short, rests}
-use mathlib.Core.Path.{_≡_, sym, ap, _∙_}
 use borrow.Author.Needs.{needs}
 use Rattle.hunt.proofs.hunt_rest.Statement.{statement}
 use Rattle.hunt.proofs.hunt_rest.Tie as tie

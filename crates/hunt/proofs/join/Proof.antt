@@ -1,6 +1,6 @@
 use native.Mathlib.Omega.{arith}
 use Rattle.hunt.proofs.JoinLaws.{reach-long, held-long, joined-is}
-use mathlib.Core.Path.{_≡_, sym, ap, _∙_}
+use mathlib.Core.Path.{sym}
 use borrow.Author.Needs.{needs}
 use Rattle.hunt.proofs.join.Statement.{statement}
 use Rattle.hunt.proofs.join.Tie as tie

@@ -3,8 +3,8 @@ use Rattle.record.proofs.PlaceLaws.{holds-long}
 use Rattle.hunt.proofs.GoingLaws.{going-sound}
 use Rattle.hunt.proofs.JoinLaws.{held-is, held-few, total-is, stream-long, first-kept, short-first, serves-first, rest-long, from-inside, rest-fits, serves-second}
 use lib.ListN.{getD}
-use Prim.Native.Nat.{ℕ, _-_}
-use mathlib.Core.Path.{_≡_, refl, sym, _∙_}
+use Prim.Native.Nat.{_-_}
+use mathlib.Core.Path.{refl, sym}
 use borrow.Author.Needs.{needs}
 use Rattle.hunt.proofs.serve.Statement.{statement}
 use Rattle.hunt.proofs.serve.Tie as tie

@@ -1,5 +1,5 @@
 use Rattle.record.proofs.Fine.{model-is}
-use mathlib.Core.Path.{sym, _∙_}
+use mathlib.Core.Path.{_∙_}
 use borrow.Author.Needs.{needs}
 use Rattle.record.proofs.check.model_fine.Statement.{statement}
 use Rattle.record.proofs.check.model_fine.Tie as tie

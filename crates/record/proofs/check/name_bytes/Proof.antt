@@ -1,7 +1,6 @@
 use native.Mathlib.Omega.{arith}
-use Prim.Native.Nat.{ℕ, _+_, _-_, _≤_}
+use Prim.Native.Nat.{_-_, _≤_}
 use mathlib.Core.Path.{_≡_, refl, sym, ap, _∙_}
-use lib.ListN.{length}
 use Rattle.record.proofs.Scan.{part, name-skip, name-hit, name-end}
 use Rattle.record.specs.Limits.{nameRange}
 use Rattle.wire.specs.Ranges.{fits}

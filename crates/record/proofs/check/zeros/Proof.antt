@@ -1,7 +1,6 @@
 use native.Mathlib.Omega.{arith}
-use Prim.Native.Nat.{ℕ, _+_, _-_, _≤_}
-use mathlib.Core.Path.{_≡_, refl, sym, ap, _∙_}
-use lib.ListN.{length}
+use Prim.Native.Nat.{_-_, _≤_}
+use mathlib.Core.Path.{_≡_, refl, sym, _∙_}
 use Rattle.record.proofs.Scan.{part, zero-skip, zero-hit, zero-end}
 use Rattle.record.specs.Form.{allZero}
 use Rattle.record.proofs.check.zeros.Statement.{statement}

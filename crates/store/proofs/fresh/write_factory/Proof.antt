@@ -1,6 +1,5 @@
 use native.Mathlib.Omega.{arith}
 use Rattle.store.proofs.Stores.{factory-stores}
-use mathlib.Core.Path.{_∙_}
 use lib.ListN.{length-set}
 use borrow.Author.Needs.{needs}
 use Rattle.store.proofs.fresh.write_factory.Statement.{statement}

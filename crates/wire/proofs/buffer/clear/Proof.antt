@@ -3,7 +3,7 @@ use Rattle.wire.specs.Numbers.{put}
 use Rattle.wire.proofs.PutLaws.{put-nil, put-zeros}
 use denote.Ref.{now}
 use lib.ListN.{length, replicate, length-set}
-use Prim.Native.Nat.{ℕ, _+_, _-_, _≤_}
+use Prim.Native.Nat.{_+_, _-_, _≤_}
 use mathlib.Core.Path.{_≡_, refl, sym, _∙_}
 use Rattle.wire.proofs.buffer.clear.Statement.{statement}
 use Rattle.wire.proofs.buffer.clear.Tie as tie

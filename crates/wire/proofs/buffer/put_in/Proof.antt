@@ -4,7 +4,7 @@ use Rattle.wire.proofs.PutLaws.{put-nil, put-more}
 use denote.Ref.{now}
 use lib.Seq.{take-length}
 use lib.ListN.{length, take, getD, length-set}
-use Prim.Native.Nat.{ℕ, _+_, _-_, _≤_}
+use Prim.Native.Nat.{_+_, _-_, _≤_}
 use mathlib.Core.Path.{_≡_, refl, sym, _∙_}
 use Rattle.wire.proofs.buffer.put_in.Statement.{statement}
 use Rattle.wire.proofs.buffer.put_in.Tie as tie

@@ -1,11 +1,11 @@
 use native.Mathlib.Omega.{arith}
 use Rattle.wire.specs.Frames.{Take}
-use Rattle.wire.specs.Finder.{Passed, Finds}
+use Rattle.wire.specs.Finder.{Passed}
 use Rattle.wire.specs.declared.Seen.the-variants.{Nothing}
 use Rattle.wire.proofs.FinderLaws.{passed-none, passed-on, passed-skip, reached, look-alone, look-other, params-head, none-head, Candidate, scan-more, scan-waits, scan-torn, scan-frame, scan-last, lesser-least, finds-nothing}
 use borrow.Author.Needs.{needs}
 use lib.ListN.{length, getD}
-use Prim.Native.Nat.{ℕ, _+_, _-_, _%_, _≤_}
+use Prim.Native.Nat.{_+_, _-_, _%_, _≤_}
 use mathlib.Core.Logic.{inl, inr}
 use mathlib.Core.Path.{_≡_, refl, sym, ap, _∙_}
 use Rattle.wire.proofs.hunt.find.Statement.{statement}

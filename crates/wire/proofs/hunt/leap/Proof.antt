@@ -2,8 +2,7 @@ use native.Mathlib.Omega.{arith}
 use Rattle.wire.specs.Finder.{Passed}
 use Rattle.wire.proofs.FinderLaws.{passed-none, passed-sixteen}
 use borrow.Author.Tests.{not-false}
-use Prim.Native.Nat.{ℕ, _+_, _-_, _≤_}
-use mathlib.Core.Path.{_≡_}
+use Prim.Native.Nat.{_-_, _≤_}
 use Rattle.wire.proofs.hunt.leap.Statement.{statement}
 use Rattle.wire.proofs.hunt.leap.Tie as tie
 

@@ -1,8 +1,7 @@
 use native.Mathlib.Omega.{arith}
 use Rattle.wire.proofs.FinderLaws.{passed-none, passed-noise}
 use Rattle.wire.specs.Finder.{Passed}
-use Prim.Native.Nat.{ℕ, _+_, _-_, _≤_}
-use mathlib.Core.Path.{_≡_}
+use Prim.Native.Nat.{_-_, _≤_}
 use mathlib.Core.Logic.{inl, inr}
 use Rattle.wire.proofs.hunt.next_aa.Statement.{statement}
 use Rattle.wire.proofs.hunt.next_aa.Tie as tie
