@@ -10,22 +10,22 @@ ghost use Rattle.command.specs.Step.{leftBy};
 ghost use Rattle.effect.specs.Countable.{Countable};
 use command::Command;
 use command::Refusal;
-use store::fields::close_mode;
-use store::fields::count_try;
-use store::fields::open_mode;
-use store::fields::set_filter;
-use store::fields::set_input;
-use store::fields::set_interval;
-use store::fields::set_mode;
-use store::fields::set_model;
-use store::fields::set_name;
-use store::fields::set_on_off;
-use store::fields::set_power;
-use store::fields::set_step;
-use store::fields::start_sending;
-use store::fields::stop_sending;
-use store::fields::switch_output;
-use store::fields::unlock;
+use flags::close_mode;
+use flags::count_try;
+use flags::open_mode;
+use flags::start_sending;
+use flags::stop_sending;
+use flags::unlock;
+use parts::set_model;
+use parts::set_name;
+use settings::set_filter;
+use settings::set_input;
+use settings::set_interval;
+use settings::set_mode;
+use settings::set_on_off;
+use settings::set_power;
+use settings::set_step;
+use settings::switch_output;
 
 pub fn carry_out(rec: &mut [u8], c: Command, p: &[u8])
     requires { ⌜ length (now rec) ≡ 123 ⌝ }

@@ -7,7 +7,7 @@ use mathlib.Core.Bool.{true}
 use Rattle.wire.specs.Numbers.{Bytes}
 use Rattle.wire.specs.Frames.{look, Take, Tear}
 use Rattle.wire.specs.Serial.{serial, isHead, headOf}
-use Rattle.wire.specs.Finder.{Passed}
+use Rattle.finder.specs.Finder.{Passed}
 use Rattle.wire.proofs.SerialLaws.{fair-whole}
 use Rattle.record.specs.Record.{Record}
 use Rattle.record.specs.Layout.{recordOf}

@@ -10,11 +10,11 @@ use lib.Seq.{drop-drop}
 use Rattle.wire.specs.Numbers.{put}
 use Rattle.wire.specs.Frames.{look, Wait, Take, Tear}
 use Rattle.wire.specs.Serial.{serial}
-use Rattle.wire.specs.Finder.{Passed, Finds}
+use Rattle.finder.specs.Finder.{Passed, Finds}
 use Rattle.wire.specs.Replies.{Reply, replyBytes, written}
 use Rattle.wire.specs.Run.{hunt, halt, ahead}
-use Rattle.wire.specs.declared.Found.{Found}
-use Rattle.wire.specs.declared.Seen.the-variants.{Frame, Torn, Nothing}
+use Rattle.finder.specs.declared.Found.{Found}
+use Rattle.finder.specs.declared.Seen.the-variants.{Frame, Torn, Nothing}
 use Rattle.wire.proofs.CutLaws.{take-room, tear-room}
 use Rattle.wire.proofs.PutLaws.{put-nil, put-put, length-put}
 use Rattle.wire.proofs.ReplyLaws.{written-append, written-one}

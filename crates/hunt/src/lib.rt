@@ -6,10 +6,10 @@ ghost use Rattle.record.specs.Layout.{recordOf};
 ghost use Rattle.record.specs.Place.{Sound};
 ghost use Rattle.hunt.specs.Progress.{Hunts, Rests, Joins, Serves};
 use carry::carry;
-use store::fields::set_pending;
-use wire::Seen;
+use finder::Seen;
+use finder::find;
+use parts::set_pending;
 use wire::buffer::put_in;
-use wire::hunt::find;
 
 // How far a hunt came: the place in its stream, the place in the output, the bytes skipped.
 pub struct Progress {

@@ -1,7 +1,6 @@
 pub mod NumberLaws
 pub mod CutLaws
 pub mod SerialLaws
-pub mod FinderLaws
 pub mod RunLaws
 pub mod PutLaws
 pub mod ReplyLaws

@@ -4,8 +4,7 @@ use mathlib.Core.Path.{_≡_, refl, sym, ap, ap₂, _∙_}
 use mathlib.Core.List.{List, [], _∷_, _++_, append-assoc}
 use native.Mathlib.Nat.{zero-add, add-assoc}
 use lib.ListN.{getD, take, drop}
-use Rattle.wire.specs.Frames.{Heads, Wait, Take, Tear, look, Piece, Whole, Broken, cut}
-use Rattle.wire.specs.Finder.{skips}
+use Rattle.wire.specs.Frames.{Heads, Wait, Take, Tear, look, Piece, Whole, Broken, cut, skips}
 use Rattle.wire.specs.Run.{Run, runs, Hunted, hunt, halt, ahead}
 use Rattle.wire.proofs.CutLaws.{Steady, All, cut-wait, cut-take, cut-tear, packets}
 

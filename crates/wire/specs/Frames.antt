@@ -50,8 +50,12 @@ pub record Cut : Type 0 where
 abbrev pub stop : List ℕ → Cut
 stop l = record { pieces = []; skipped = 0; waiting = l }
 
+-- so many bytes skipped before a cut
+abbrev pub skips : ℕ → Cut → Cut
+skips k c = record { pieces = c .pieces; skipped = k + c .skipped; waiting = c .waiting }
+
 abbrev pub skipOne : Cut → Cut
-skipOne c = record { pieces = c .pieces; skipped = 1 + c .skipped; waiting = c .waiting }
+skipOne c = skips 1 c
 
 abbrev pub carryOut : List ℕ → Cut → Cut
 carryOut f c = record { pieces = Whole f ∷ c .pieces; skipped = c .skipped; waiting = c .waiting }

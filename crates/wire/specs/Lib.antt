@@ -5,4 +5,3 @@ pub mod Serial
 pub mod Replies
 pub mod Run
 pub mod HuntRows
-pub mod Finder

@@ -5,7 +5,7 @@ use Rattle.board.proofs.board_factory.Tie as tie
 use Rattle.board.proofs.board_factory.Reads as reads
 use Rattle.board.proofs.board_factory.Lts as lts
 use Rattle.board.proofs.ended.Reads as ended-reads
-use Rattle.store.proofs.fresh.write_factory.Reads as write-factory-reads
+use Rattle.parts.proofs.fresh.write_factory.Reads as write-factory-reads
 
 ended-requires : tie.Need-ended-requires
 ended-requires c κs = search needs

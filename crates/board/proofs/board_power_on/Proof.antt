@@ -8,7 +8,7 @@ use Rattle.board.proofs.board_power_on.Reads as reads
 use Rattle.board.proofs.board_power_on.Lts as lts
 use Rattle.board.proofs.ended.Reads as ended-reads
 use Rattle.record.proofs.check.form_of.Reads as form-of-reads
-use Rattle.store.proofs.fresh.switch_on.Reads as switch-on-reads
+use Rattle.parts.proofs.fresh.switch_on.Reads as switch-on-reads
 
 form-of-requires : tie.Need-form-of-requires
 form-of-requires c κs = search needs

@@ -1,0 +1,137 @@
+// The search for the next frame, broken head or waiting candidate in a stream: 9n and An.
+ghost use mathlib.Core.Logic.{_⊎_};
+ghost use mathlib.Core.Path.{_≡_};
+ghost use Prim.Native.Nat.{_+_, _≤_, _<_};
+ghost use lib.ListN.{length};
+ghost use Rattle.finder.specs.Finder.{announcedOf, quiet, Passed, Reaches, Finds};
+
+// What the byte behind an AA announces: a frame with so many parameters, or none.
+pub enum Announced {
+    Params(usize),
+    NoFrame,
+}
+
+// What the finder stopped at: a frame with so many parameters, a broken head, or nothing that can be decided.
+pub enum Seen {
+    Frame(usize),
+    Torn,
+    Nothing,
+}
+
+pub struct Found {
+    pub seen: Seen,
+    pub at: usize,
+}
+
+fn announced_by(b: u8) -> Announced
+    ensures { λ r. ⌜ r ≡ announcedOf b ⌝ }
+{
+    if b < 0x90 {
+        return Announced::NoFrame;
+    }
+    if 0xAF < b {
+        return Announced::NoFrame;
+    }
+    Announced::Params((b % 16) as usize)
+}
+
+// Whether none of eight bytes is AA.
+fn quiet_eight(s: &[u8], at: usize) -> bool
+    requires { ⌜ at + 8 ≤ length (now s) ⌝ }
+    ensures { λ r. ⌜ r ≡ quiet 8 (now (s .entry)) at ⌝ }
+{
+    (s[at] != 0xAA)
+        & (s[at + 1] != 0xAA)
+        & (s[at + 2] != 0xAA)
+        & (s[at + 3] != 0xAA)
+        & (s[at + 4] != 0xAA)
+        & (s[at + 5] != 0xAA)
+        & (s[at + 6] != 0xAA)
+        & (s[at + 7] != 0xAA)
+}
+
+// Passes over noise, sixteen bytes a turn, as long as none of them is AA.
+fn leap(s: &[u8], from: usize, until: usize) -> usize
+    requires { ⌜ (from ≤ until) × (until ≤ length (now s)) ⌝ }
+    ensures { λ r. ⌜ Passed (now (s .entry)) from r × (r ≤ until) ⌝ }
+{
+    let mut at = from;
+    while 16 <= until - at {
+        let first = quiet_eight(s, at);
+        let second = quiet_eight(s, at + 8);
+        if !(first & second) {
+            return at;
+        }
+        at += 16;
+    }
+    at
+}
+
+// The place of the next AA, or `until`.
+fn next_aa(s: &[u8], from: usize, until: usize) -> usize
+    requires { ⌜ (from < until) × (until ≤ length (now s)) ⌝ }
+    ensures { λ r. ⌜ Reaches (now (s .entry)) from until r ⌝ }
+{
+    if s[from] == 0xAA {
+        return from;
+    }
+    let mut at = leap(s, from, until);
+    while at < until {
+        if s[at] == 0xAA {
+            return at;
+        }
+        at += 1;
+    }
+    at
+}
+
+// The lesser of two numbers.
+fn lesser(a: usize, b: usize) -> usize
+    ensures { λ r. ⌜ (r ≤ a) × (r ≤ b) × ((r ≡ a) ⊎ (r ≡ b)) ⌝ }
+{
+    if a < b {
+        return a;
+    }
+    b
+}
+
+// Passes over bytes to skip, up to the next piece: a frame, a broken head, a candidate that waits, or `until`.
+pub fn find(s: &[u8], from: usize, until: usize) -> Found
+    requires { ⌜ (from ≤ until) × (until ≤ length (now s)) × (length (now s) ≤ 4114) ⌝ }
+    ensures { λ r. ⌜ Finds (now (s .entry)) from until r ⌝ }
+{
+    let mut at = from;
+    let mut seen = Seen::Nothing;
+    'hunt: while at < until {
+        at = next_aa(s, at, until);
+        if at == until {
+            break 'hunt;
+        }
+        if s.len() - at < 2 {
+            break 'hunt;
+        }
+        let Announced::Params(n) = announced_by(s[at + 1]) else {
+            at += 1;
+            continue 'hunt;
+        };
+        let last = at + 3 + n;
+        let stop = lesser(last, s.len());
+        let mut place = at + 2;
+        loop {
+            if place < stop {
+                place += 1;
+                continue;
+            }
+            if s.len() <= place {
+                break 'hunt;
+            }
+            if s[place] != 0x85 {
+                seen = Seen::Torn;
+                break 'hunt;
+            }
+            seen = Seen::Frame(n);
+            break 'hunt;
+        }
+    }
+    Found { seen, at }
+}

@@ -1,0 +1,22 @@
+use Rattle.flags.proofs.Turn.{turn-tries}
+use borrow.Author.Needs.{needs}
+use Rattle.flags.proofs.count_try.Statement.{statement}
+use Rattle.flags.proofs.count_try.Tie as tie
+
+slice-read-rec : tie.Need-slice-read-rec
+slice-read-rec c = search needs
+
+add-rec : tie.Need-add-rec
+add-rec c = search needs
+
+slice-write-rec : tie.Need-slice-write-rec
+slice-write-rec c = search needs
+
+same-length : tie.Need-same-length
+same-length c = search needs
+
+returns : tie.Need-returns
+returns c = turn-tries (c .before .args .rec .now)
+
+pub count-try-spec : {M : Type 1} → statement M
+count-try-spec = tie.close (tie.spec slice-read-rec add-rec slice-write-rec same-length returns)

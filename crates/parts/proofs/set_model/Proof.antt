@@ -1,0 +1,40 @@
+use Rattle.parts.proofs.Turn.{turn-model}
+use borrow.Author.Needs.{needs}
+use Rattle.parts.proofs.set_model.Statement.{statement}
+use Rattle.parts.proofs.set_model.Tie as tie
+
+first-zero-requires : tie.Need-first-zero-requires
+first-zero-requires c κs = search needs
+
+sub-put-part : tie.Need-sub-put-part
+sub-put-part c = search needs
+
+part-put-part-start : tie.Need-part-put-part-start
+part-put-part-start c = search needs
+
+part-put-part-end : tie.Need-part-put-part-end
+part-put-part-end c = search needs
+
+put-part-requires : tie.Need-put-part-requires
+put-part-requires c κs = search needs
+
+same-length : tie.Need-same-length
+same-length c = search needs
+
+returns : tie.Need-returns
+returns c =
+    let q = c .before .before .before .before .before in
+    let a = q .before .before .before .args in
+    rw (c .before .before .put-part .ensures) (turn-model (a .rec .now) (a .p .now) (q .first-zero .result) (q .first-zero .ensures .0))
+
+pub set-model-spec : {M : Type 1} → statement M
+set-model-spec =
+    tie.close
+    (tie.spec
+    first-zero-requires
+    sub-put-part
+    part-put-part-start
+    part-put-part-end
+    put-part-requires
+    same-length
+    returns)

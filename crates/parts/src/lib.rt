@@ -1,0 +1,50 @@
+// Name, model and pending bytes of a record stored in its bytes, with zeros behind them.
+pub mod fresh;
+
+ghost use mathlib.Core.Path.{_≡_};
+ghost use Prim.Native.Nat.{_+_, _-_, _≤_};
+ghost use lib.ListN.{length};
+ghost use lib.Seq.{sets};
+ghost use Rattle.wire.specs.Numbers.{bytesAt};
+ghost use Rattle.record.specs.Record.{withName, withSettings, withModel, withPending};
+ghost use Rattle.record.specs.Limits.{beforeZero};
+ghost use Rattle.record.specs.Place.{Turns};
+use record::check::first_zero;
+use wire::buffer::clear;
+use wire::buffer::put_in;
+
+// Writes a part and zeros behind it, so that no old byte is left in its room.
+fn put_part(rec: &mut [u8], at: usize, end: usize, p: &[u8])
+    requires { ⌜ (at + length (now p) ≤ end) × (end ≤ length (now rec)) ⌝ }
+    ensures { λ _. ⌜ now (rec .exit) ≡ sets (now (rec .entry)) at (bytesAt (end - at) (now (p .entry)) 0) ⌝ }
+{
+    let behind = put_in(rec, at, p);
+    clear(rec, behind, end);
+}
+
+pub fn set_name(rec: &mut [u8], p: &[u8])
+    requires { ⌜ length (now rec) ≡ 123 ⌝ }
+    requires { ⌜ length (now p) ≤ 15 ⌝ }
+    ensures { λ _. ⌜ Turns (now (rec .entry)) (now (rec .exit)) (λ r. withSettings r (withName (r .settings) (now (p .entry)))) ⌝ }
+{
+    rec[25] = p.len() as u8;
+    put_part(rec, 26, 41, p);
+}
+
+pub fn set_model(rec: &mut [u8], p: &[u8])
+    requires { ⌜ length (now rec) ≡ 123 ⌝ }
+    requires { ⌜ length (now p) ≤ 15 ⌝ }
+    ensures { λ _. ⌜ Turns (now (rec .entry)) (now (rec .exit)) (λ r. withModel r (beforeZero (now (p .entry)))) ⌝ }
+{
+    let n = first_zero(p, 0, p.len());
+    put_part(rec, 41, 56, &p[0..n]);
+}
+
+pub fn set_pending(rec: &mut [u8], p: &[u8])
+    requires { ⌜ length (now rec) ≡ 123 ⌝ }
+    requires { ⌜ length (now p) ≤ 18 ⌝ }
+    ensures { λ _. ⌜ Turns (now (rec .entry)) (now (rec .exit)) (λ r. withPending r (now (p .entry))) ⌝ }
+{
+    rec[56] = p.len() as u8;
+    put_part(rec, 57, 75, p);
+}

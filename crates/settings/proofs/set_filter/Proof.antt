@@ -1,0 +1,49 @@
+use Rattle.settings.proofs.Turn.{turn-filter}
+use borrow.Author.Needs.{needs}
+use Rattle.settings.proofs.set_filter.Statement.{statement}
+use Rattle.settings.proofs.set_filter.Tie as tie
+
+shared-slice-read-rec : tie.Need-shared-slice-read-rec
+shared-slice-read-rec c = search needs
+
+slice-write-rec : tie.Need-slice-write-rec
+slice-write-rec c = search needs
+
+shared-slice-read-rec-2 : tie.Need-shared-slice-read-rec-2
+shared-slice-read-rec-2 c = search needs
+
+slice-write-rec-2 : tie.Need-slice-write-rec-2
+slice-write-rec-2 c = search needs
+
+shared-slice-read-rec-3 : tie.Need-shared-slice-read-rec-3
+shared-slice-read-rec-3 c = search needs
+
+slice-write-rec-3 : tie.Need-slice-write-rec-3
+slice-write-rec-3 c = search needs
+
+shared-slice-read-rec-4 : tie.Need-shared-slice-read-rec-4
+shared-slice-read-rec-4 c = search needs
+
+slice-write-rec-4 : tie.Need-slice-write-rec-4
+slice-write-rec-4 c = search needs
+
+same-length : tie.Need-same-length
+same-length c = search needs
+
+returns : tie.Need-returns
+returns c = let a = c .before .before .before .before .args in turn-filter (a .rec .now) (a .p .now) (λ i. c .shared-slice-known4 .given i .fits)
+
+pub set-filter-spec : {M : Type 1} → statement M
+set-filter-spec =
+    tie.close
+    (tie.spec
+    shared-slice-read-rec
+    slice-write-rec
+    shared-slice-read-rec-2
+    slice-write-rec-2
+    shared-slice-read-rec-3
+    slice-write-rec-3
+    shared-slice-read-rec-4
+    slice-write-rec-4
+    same-length
+    returns)
