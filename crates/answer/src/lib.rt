@@ -14,7 +14,7 @@ ghost use Rattle.command.specs.Tables.{countedOf, rangeOf};
 ghost use Rattle.command.specs.Effects.{dataOf, closedModel};
 ghost use Rattle.answer.specs.Answers.{Answers};
 use command::Command;
-use record::check::first_zero;
+use form::first_zero;
 use wire::buffer::put_in;
 
 fn put_one(out: &mut [u8], at: usize, a: u8) -> usize

@@ -5,13 +5,13 @@ ghost use Prim.Native.Nat.{_≤_};
 ghost use lib.ListN.{length};
 ghost use Rattle.wire.specs.Numbers.{put};
 ghost use Rattle.board.specs.Calls.{zeroes, factoryCall, powerOnCall, bytesCall, measured, samplesCall, Leaves};
+use form::form_of;
 use hunt::serve;
 use parts::fresh::switch_on;
 use parts::fresh::write_factory;
 use reading::peaks::finite_sample;
 use reading::peaks::take_reading;
 use record::Form;
-use record::check::form_of;
 use wire::buffer::put_in;
 
 // How a call ends.

@@ -6,7 +6,7 @@ use native.Mathlib.Omega.{arith}
 use lib.ListN.{length, getD, take, drop, length-append, length-drop}
 use lib.Seq.{take-at, take-all, length-take-le, take-take}
 use Rattle.wire.specs.Numbers.{put}
-use Rattle.wire.proofs.NumberLaws.{part-is}
+use Rattle.wire.proofs.NumberLaws.{part-is, drop-take}
 use Rattle.wire.proofs.PutLaws.{put-put, put-zero}
 use Rattle.wire.proofs.SerialLaws.{pending-short}
 use Rattle.record.specs.Record.{Record, withPending}
@@ -14,7 +14,6 @@ use Rattle.record.specs.Layout.{recordOf}
 use Rattle.record.specs.Place.{Sound, Turns}
 use Rattle.record.proofs.PlaceLaws.{holds-long}
 use Rattle.record.proofs.Lens.{get-pending-length}
-use Rattle.record.proofs.Fine.{drop-take}
 use Rattle.hunt.specs.Progress.{Hunts, Rests, Joins, Serves}
 use Rattle.hunt.specs.declared.Progress.{Progress}
 use Rattle.hunt.proofs.SofarLaws.{stopped}

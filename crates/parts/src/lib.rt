@@ -9,7 +9,7 @@ ghost use Rattle.wire.specs.Numbers.{bytesAt};
 ghost use Rattle.record.specs.Record.{withName, withSettings, withModel, withPending};
 ghost use Rattle.record.specs.Limits.{beforeZero};
 ghost use Rattle.record.specs.Place.{Turns};
-use record::check::first_zero;
+use form::first_zero;
 use wire::buffer::clear;
 use wire::buffer::put_in;
 

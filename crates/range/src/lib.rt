@@ -8,7 +8,7 @@ ghost use Rattle.record.specs.Limits.{powerRange, intervalRange, filterRange, n
 ghost use Rattle.command.specs.declared.Counted.the-variants.{Right};
 ghost use Rattle.command.specs.Tables.{countedOf, rangeOf};
 use command::Command;
-use record::check::name_bytes;
+use form::name_bytes;
 use wire::Range;
 use wire::numbers::half_at;
 use wire::numbers::word_at;

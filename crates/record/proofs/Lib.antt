@@ -6,10 +6,5 @@ pub mod Births
 pub mod Reading
 pub mod Bounds
 pub mod Lens
-pub mod Tests
-pub mod Groups
-pub mod Scan
-pub mod Pending
-pub mod Fine
 pub mod PlaceLaws
 pub mod Whole

@@ -2,10 +2,10 @@
 use Prim.Native.Nat.{ℕ, zero, suc, _+_, _-_, _*_, _/_, _%_, _≤_, _<_}
 use mathlib.Core.Path.{_≡_, refl, sym, ap, _∙_}
 use mathlib.Core.List.{List, [], _∷_, _++_}
-use native.Mathlib.Nat.{div-div-eq-div-mul, div-add-mod', mod-eq-of-lt, add-mul, mul-assoc, add-assoc}
+use native.Mathlib.Nat.{div-div-eq-div-mul, div-add-mod', mod-eq-of-lt, add-mul, mul-assoc, add-assoc, sub-zero, suc-sub-suc, zero-sub}
 use native.Mathlib.Omega.{arith}
 use lib.ListN.{length, getD, take, drop}
-use lib.Seq.{drop-cons, take-all, getD-drop}
+use lib.Seq.{drop-cons, take-all, take-nil, getD-drop}
 use Rattle.wire.specs.Numbers.{Bytes, word16, word32, bytes2, bytes4, bytesAt}
 
 -- ---- a number from its bytes, and back
@@ -41,6 +41,12 @@ word-bytes a b c d A B C D =
     rw (w₃, w₂, w₁, w₀) refl
 
 -- ---- parts of a list
+
+pub drop-take : (a b : ℕ) (l : List ℕ) → drop a (take b l) ≡ take (b - a) (drop a l)
+drop-take zero b l = rw sub-zero refl
+drop-take (suc a) zero l = rw (zero-sub (suc a)) refl
+drop-take (suc a) (suc b) [] = sym (take-nil (suc b - suc a))
+drop-take (suc a) (suc b) (x ∷ l) = rw suc-sub-suc (drop-take a b l)
 
 pub part-is : (n : ℕ) (s : List ℕ) (at : ℕ) → at + n ≤ length s → bytesAt n s at ≡ take n (drop at s)
 part-is zero s at h = refl

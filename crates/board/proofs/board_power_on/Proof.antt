@@ -7,7 +7,7 @@ use Rattle.board.proofs.board_power_on.Tie as tie
 use Rattle.board.proofs.board_power_on.Reads as reads
 use Rattle.board.proofs.board_power_on.Lts as lts
 use Rattle.board.proofs.ended.Reads as ended-reads
-use Rattle.record.proofs.check.form_of.Reads as form-of-reads
+use Rattle.form.proofs.form_of.Reads as form-of-reads
 use Rattle.parts.proofs.fresh.switch_on.Reads as switch-on-reads
 
 form-of-requires : tie.Need-form-of-requires

@@ -1,0 +1,132 @@
+-- Name, model and pending bytes, as their functions test them; and the whole check.
+use Prim.Native.Nat.{ℕ, zero, suc, _+_, _-_, _≤_, _<_}
+use mathlib.Core.Path.{_≡_, refl, sym, ap, ap₂, _∙_}
+use mathlib.Core.Bool.{Bool, true, false, _&&_, and-assoc, and-true}
+use mathlib.Core.List.{List, [], _∷_, _++_}
+use native.Mathlib.Omega.{arith}
+use lib.ListN.{length, getD, take, drop}
+use lib.Seq.{take-take, drop-drop}
+use lib.Dec.{leb, eqb}
+use borrow.Author.Tests.{lt-leb, le-leb, eq-eqb, ne-eqb}
+use Rattle.wire.specs.Numbers.{bytesAt}
+use Rattle.wire.specs.Ranges.{fits}
+use Rattle.wire.specs.Frames.{waits}
+use Rattle.wire.specs.Serial.{serial}
+use Rattle.wire.proofs.NumberLaws.{part-is, drop-take}
+use Rattle.record.specs.Limits.{nameRange, beforeZero}
+use Rattle.record.specs.Form.{Field, allZero, zerosBehind, partFits, allFine, headFields, radioFields, inputFields, switchFields, nameFields, modelFields, pendingFields, pairFields, groupsOf, join, wellFormed, formBy, formOf}
+use Rattle.record.specs.declared.Form.the-variants.{Good, Bad}
+use Rattle.record.proofs.Parts.{behind-is}
+use Rattle.form.proofs.Scan.{part}
+
+-- a part of which the first n bytes are in use, by the places where it starts and ends
+part-fits : (test : List ℕ → Bool) (s : List ℕ) (at room n : ℕ) → at + room ≤ length s → n ≤ room
+    → partFits test n (bytesAt room s at) ≡ (test (part s at (at + n)) && allZero (part s (at + n) (at + room)))
+part-fits test s at room n h k =
+    let a : n ≡ at + n - at = omega arith in
+    let b : room - n ≡ at + room - (at + n) = omega arith in
+    let used : take n (bytesAt room s at) ≡ part s at (at + n) =
+    ap (take n) (part-is room s at h) ∙ take-take n room (drop at s) k ∙ ap (λ (m : ℕ). take m (drop at s)) a in
+    let behind : drop n (bytesAt room s at) ≡ part s (at + n) (at + room) =
+    ap (drop n) (part-is room s at h) ∙ drop-take n room (drop at s) ∙ ap (take (room - n)) (drop-drop n at s) ∙ ap (λ (m : ℕ). take m (drop (at + n) s)) b in
+    ap₂ (_&&_) (ap test used) (ap allZero behind)
+
+-- a length byte in its range, and its part
+fields-yes : (n room : ℕ) (rest : Bool) → n ≤ room → (leb n room && (rest && true)) ≡ rest
+fields-yes n room rest h = rw (le-leb n room h) (and-true rest)
+
+both-first : (a b : Bool) → a ≡ true → (a && b) ≡ b
+both-first a b e = rw e refl
+
+both-not : (a b : Bool) → a ≡ false → (a && b) ≡ false
+both-not a b e = rw e refl
+
+module _ (s : List ℕ) (whole : length s ≡ 123) where
+  abbrev name : ℕ
+  name = getD s 25 0
+
+  abbrev waiting : ℕ
+  waiting = getD s 56 0
+
+  pub name-long : 15 < name → false ≡ allFine (nameFields s)
+  name-long h = rw (lt-leb name 15 h) refl
+
+  module _ (h : name ≤ 15) where
+    name-is : allFine (nameFields s) ≡ (fits (nameRange (part s 26 (26 + name))) && allZero (part s (26 + name) 41))
+    name-is = fields-yes name 15 (partFits (λ l. fits (nameRange l)) name (bytesAt 15 s 26)) h ∙ part-fits (λ l. fits (nameRange l)) s 26 15 name (omega arith) h
+
+    pub name-zeros : fits (nameRange (part s 26 (26 + name))) ≡ true → allZero (part s (26 + name) 41) ≡ allFine (nameFields s)
+    name-zeros e = sym (name-is ∙ both-first _ _ e)
+
+    pub name-bad : fits (nameRange (part s 26 (26 + name))) ≡ false → false ≡ allFine (nameFields s)
+    name-bad e = sym (name-is ∙ both-not _ _ e)
+
+  pub pending-long : 18 < waiting → false ≡ allFine (pendingFields s)
+  pending-long h = rw (lt-leb waiting 18 h) refl
+
+  module _ (h : waiting ≤ 18) where
+    pending-is : allFine (pendingFields s) ≡ (waits serial (take waiting (drop 57 s)) && allZero (part s (57 + waiting) 75))
+    pending-is =
+        let e : 57 + waiting - 57 ≡ waiting = omega arith in
+        fields-yes waiting 18 (partFits (waits serial) waiting (bytesAt 18 s 57)) h ∙ part-fits (waits serial) s 57 18 waiting (omega arith) h ∙ rw e refl
+
+    pub pending-zeros : waits serial (take waiting (drop 57 s)) ≡ true → allZero (part s (57 + waiting) 75) ≡ allFine (pendingFields s)
+    pending-zeros e = sym (pending-is ∙ both-first _ _ e)
+
+    pub pending-bad : waits serial (take waiting (drop 57 s)) ≡ false → false ≡ allFine (pendingFields s)
+    pending-bad e = sym (pending-is ∙ both-not _ _ e)
+
+  -- from the first zero on
+  pub model-is : (at : ℕ) → at ≡ 41 + length (beforeZero (part s 41 56)) → allZero (part s at 56) ≡ allFine (modelFields s)
+  model-is at e =
+      let p : bytesAt 15 s 41 ≡ part s 41 56 = part-is 15 s 41 (omega arith) in
+      let n : ℕ = length (beforeZero (part s 41 56)) in
+      let b : 15 - n ≡ 56 - (41 + n) = omega arith in
+      rw e
+      (sym (and-true (zerosBehind (bytesAt 15 s 41)) ∙ ap zerosBehind p ∙ behind-is (part s 41 56)
+      ∙ ap allZero (drop-take n 15 (drop 41 s) ∙ ap (take (15 - n)) (drop-drop n 41 s) ∙ ap (λ (m : ℕ). take m (drop (41 + n) s)) b)))
+
+-- ---- the check as a chain of its groups
+
+all-append : (xs ys : List Field) → allFine (xs ++ ys) ≡ (allFine xs && allFine ys)
+all-append [] ys = refl
+all-append (x ∷ xs) ys = ap (λ (c : Bool). x .fine && c) (all-append xs ys) ∙ sym (and-assoc (x .fine) (allFine xs) (allFine ys))
+
+-- the tests of the groups, the first that fails being the answer
+abbrev pub chain : List (List Field) → Bool
+chain [] = true
+chain (g ∷ gs) = allFine g && chain gs
+
+all-join : (gs : List (List Field)) → allFine (join gs) ≡ chain gs
+all-join [] = refl
+all-join (g ∷ gs) = all-append g (join gs) ∙ ap (λ (c : Bool). allFine g && c) (all-join gs)
+
+form-is : (s : List ℕ) → formOf s ≡ formBy (eqb (length s) 123 && chain (groupsOf s))
+unfolding wellFormed
+form-is s = ap (λ (c : Bool). formBy (eqb (length s) 123 && c)) (all-join (groupsOf s))
+
+chain-no : (gs : List (List Field)) (k : ℕ) → allFine (getD gs k []) ≡ false → chain gs ≡ false
+chain-no [] k e = e
+chain-no (g ∷ gs) zero e = rw e refl
+chain-no (g ∷ gs) (suc k) e = rw (chain-no gs k e) (no (allFine g))
+  where
+    no : (b : Bool) → (b && false) ≡ false
+    no true = refl
+    no false = refl
+
+pub short : (s : List ℕ) → (length s ≡ 123 → ⊥) → Bad ≡ formOf s
+short s h = sym (form-is s ∙ rw (ne-eqb (length s) 123 h) refl)
+
+module _ (s : List ℕ) (whole : length s ≡ 123) where
+  by-chain : formOf s ≡ formBy (chain (groupsOf s))
+  by-chain = form-is s ∙ rw (eq-eqb (length s) 123 whole) refl
+
+  -- a group that fails, and all that hold
+  pub bad : (k : ℕ) → allFine (getD (groupsOf s) k []) ≡ false → Bad ≡ formOf s
+  bad k e = sym (by-chain ∙ ap formBy (chain-no (groupsOf s) k e))
+
+  pub good : allFine (headFields s) ≡ true → allFine (radioFields s) ≡ true → allFine (inputFields s) ≡ true → allFine (switchFields s) ≡ true → allFine (nameFields s) ≡ true
+      → allFine (modelFields s) ≡ true → allFine (pendingFields s) ≡ true → allFine (pairFields s) ≡ true → Good ≡ formOf s
+  good e₀ e₁ e₂ e₃ e₄ e₅ e₆ e₇ =
+      let all : chain (groupsOf s) ≡ true = rw (e₀, e₁, e₂, e₃, e₄, e₅, e₆, e₇) refl in
+      sym (by-chain ∙ ap formBy all)
