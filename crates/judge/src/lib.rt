@@ -51,7 +51,7 @@ fn code_access(rec: &[u8], p: &[u8]) -> Access
 }
 
 // 62: what the command needs of the board.
-pub fn check_access(need: Need, rec: &[u8], p: &[u8]) -> Access
+fn check_access(need: Need, rec: &[u8], p: &[u8]) -> Access
     requires { ⌜ (length (now rec) ≡ 123) × (asks need ≤ length (now p)) ⌝ }
     ensures { λ r. ⌜ Shows (now (rec .entry)) r (λ b. accessOf need b (now (p .entry))) ⌝ }
 {

@@ -51,7 +51,7 @@ fn peak_at(rec: &[u8], at: usize) -> Peak
     Peak { greatest, smallest }
 }
 
-pub fn decode(rec: &[u8]) -> Decoded
+fn decode(rec: &[u8]) -> Decoded
     requires { ⌜ Sound (now rec) ⌝ }
     ensures { λ r. ⌜ r ≡ decodedOf (now (rec .entry)) ⌝ }
 {

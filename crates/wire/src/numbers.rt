@@ -4,13 +4,13 @@ ghost use Prim.Native.Nat.{_+_, _≤_};
 ghost use lib.ListN.{length};
 ghost use Rattle.wire.specs.Numbers.{word16, word32, halfAt, wordAt};
 
-pub fn half_of(a: u8, b: u8) -> u16
+fn half_of(a: u8, b: u8) -> u16
     ensures { λ r. ⌜ r ≡ word16 a b ⌝ }
 {
     (a as u16) * 256 + (b as u16)
 }
 
-pub fn word_of(a: u8, b: u8, c: u8, d: u8) -> u32
+fn word_of(a: u8, b: u8, c: u8, d: u8) -> u32
     ensures { λ r. ⌜ r ≡ word32 a b c d ⌝ }
 {
     (a as u32) * 16777216 + (b as u32) * 65536 + (c as u32) * 256 + (d as u32)
