@@ -1,7 +1,7 @@
 -- Name, model and pending bytes, as their functions test them; and the whole check.
 use Prim.Native.Nat.{ℕ, zero, suc, _+_, _-_, _≤_, _<_}
 use mathlib.Core.Path.{_≡_, refl, sym, ap, ap₂, _∙_}
-use mathlib.Core.Bool.{Bool, true, false, _&&_, and-assoc, and-true}
+use mathlib.Core.Bool.{Bool, true, false, cond, _&&_, and-assoc, and-true}
 use mathlib.Core.List.{List, [], _∷_, _++_}
 use native.Mathlib.Omega.{arith}
 use lib.ListN.{length, getD, take, drop}
@@ -9,7 +9,8 @@ use lib.Seq.{take-take, drop-drop}
 use lib.Dec.{leb, eqb}
 use borrow.Author.Tests.{lt-leb, le-leb, eq-eqb, ne-eqb}
 use Rattle.wire.specs.Numbers.{bytesAt}
-use Rattle.wire.specs.Ranges.{fits}
+use Rattle.wire.specs.Ranges.{fits, also}
+use Rattle.wire.specs.declared.Range.the-variants.{Fits, Big}
 use Rattle.wire.specs.Frames.{waits}
 use Rattle.wire.specs.Serial.{serial}
 use Rattle.wire.proofs.NumberLaws.{part-is, drop-take}
@@ -19,17 +20,49 @@ use Rattle.record.specs.declared.Form.the-variants.{Good, Bad}
 use Rattle.record.proofs.Parts.{behind-is}
 use Rattle.form.proofs.Scan.{part}
 
--- a part of which the first n bytes are in use, by the places where it starts and ends
+-- the part behind the bytes in use, by the places where it starts and ends
+part-behind : (s : List ℕ) (at room n : ℕ) → at + room ≤ length s → n ≤ room → drop n (bytesAt room s at) ≡ part s (at + n) (at + room)
+part-behind s at room n h k =
+    let b : room - n ≡ at + room - (at + n) = omega arith in
+    ap (drop n) (part-is room s at h) ∙ drop-take n room (drop at s) ∙ ap (take (room - n)) (drop-drop n at s) ∙ ap (λ (m : ℕ). take m (drop (at + n) s)) b
+
+-- a part of which the first n bytes are in use
 part-fits : (test : List ℕ → Bool) (s : List ℕ) (at room n : ℕ) → at + room ≤ length s → n ≤ room
     → partFits test n (bytesAt room s at) ≡ (test (part s at (at + n)) && allZero (part s (at + n) (at + room)))
 part-fits test s at room n h k =
     let a : n ≡ at + n - at = omega arith in
-    let b : room - n ≡ at + room - (at + n) = omega arith in
     let used : take n (bytesAt room s at) ≡ part s at (at + n) =
     ap (take n) (part-is room s at h) ∙ take-take n room (drop at s) k ∙ ap (λ (m : ℕ). take m (drop at s)) a in
-    let behind : drop n (bytesAt room s at) ≡ part s (at + n) (at + room) =
-    ap (drop n) (part-is room s at h) ∙ drop-take n room (drop at s) ∙ ap (take (room - n)) (drop-drop n at s) ∙ ap (λ (m : ℕ). take m (drop (at + n) s)) b in
-    ap₂ (_&&_) (ap test used) (ap allZero behind)
+    ap₂ (_&&_) (ap test used) (ap allZero (part-behind s at room n h k))
+
+-- zeros may stand in a name, so that a name and the zeros behind it are tested as one
+name-zero : (l : List ℕ) → allZero l ≡ true → fits (nameRange l) ≡ true
+unfolding allZero nameRange
+name-zero [] e = refl
+name-zero (zero ∷ l) e = name-zero l e
+name-zero (suc b ∷ l) e =
+    let q = rw (ne-eqb (suc b) 0 (λ z. omega arith)) at e in
+    let z : _≡_ {A = ℕ} 0 1 = cc in
+    absurd (omega arith)
+
+room-name : (n : ℕ) (l : List ℕ) → (fits (nameRange (take n l)) && allZero (drop n l)) ≡ (fits (nameRange l) && allZero (drop n l))
+unfolding nameRange
+room-name zero l = by (allZero l) refl
+  where
+    by : (t : Bool) → allZero l ≡ t → t ≡ (fits (nameRange l) && t)
+    by true e = rw (name-zero l e) refl
+    by false e = no (fits (nameRange l))
+      where
+        no : (b : Bool) → false ≡ (b && false)
+        no true = refl
+        no false = refl
+room-name (suc n) [] = refl
+room-name (suc n) (b ∷ l) = by (leb b 0x7F) (room-name n l)
+  where
+    by : (t : Bool) → (fits (nameRange (take n l)) && allZero (drop n l)) ≡ (fits (nameRange l) && allZero (drop n l))
+        → (fits (also (cond t Fits Big) (nameRange (take n l))) && allZero (drop n l)) ≡ (fits (also (cond t Fits Big) (nameRange l)) && allZero (drop n l))
+    by true e = e
+    by false e = refl
 
 -- a length byte in its range, and its part
 fields-yes : (n room : ℕ) (rest : Bool) → n ≤ room → (leb n room && (rest && true)) ≡ rest
@@ -52,13 +85,15 @@ module _ (s : List ℕ) (whole : length s ≡ 123) where
   name-long h = rw (lt-leb name 15 h) refl
 
   module _ (h : name ≤ 15) where
-    name-is : allFine (nameFields s) ≡ (fits (nameRange (part s 26 (26 + name))) && allZero (part s (26 + name) 41))
-    name-is = fields-yes name 15 (partFits (λ l. fits (nameRange l)) name (bytesAt 15 s 26)) h ∙ part-fits (λ l. fits (nameRange l)) s 26 15 name (omega arith) h
+    name-is : allFine (nameFields s) ≡ (fits (nameRange (bytesAt 15 s 26)) && allZero (part s (26 + name) 41))
+    name-is =
+        fields-yes name 15 (partFits (λ l. fits (nameRange l)) name (bytesAt 15 s 26)) h
+        ∙ room-name name (bytesAt 15 s 26) ∙ ap (λ (l : List ℕ). fits (nameRange (bytesAt 15 s 26)) && allZero l) (part-behind s 26 15 name (omega arith) h)
 
-    pub name-zeros : fits (nameRange (part s 26 (26 + name))) ≡ true → allZero (part s (26 + name) 41) ≡ allFine (nameFields s)
+    pub name-zeros : fits (nameRange (bytesAt 15 s 26)) ≡ true → allZero (part s (26 + name) 41) ≡ allFine (nameFields s)
     name-zeros e = sym (name-is ∙ both-first _ _ e)
 
-    pub name-bad : fits (nameRange (part s 26 (26 + name))) ≡ false → false ≡ allFine (nameFields s)
+    pub name-bad : fits (nameRange (bytesAt 15 s 26)) ≡ false → false ≡ allFine (nameFields s)
     name-bad e = sym (name-is ∙ both-not _ _ e)
 
   pub pending-long : 18 < waiting → false ≡ allFine (pendingFields s)

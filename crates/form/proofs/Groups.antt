@@ -1,17 +1,22 @@
 -- Each group of fields, as its function tests it.
-use Prim.Native.Nat.{ℕ, _-_}
-use mathlib.Core.Path.{_≡_}
-use mathlib.Core.Bool.{Bool, _&&_, and-assoc, and-true}
+use Prim.Native.Nat.{ℕ, _+_, _-_, _<_}
+use mathlib.Core.Path.{_≡_, refl}
+use mathlib.Core.Bool.{Bool, true, false, cond, not, _&&_, and-assoc, and-true}
 use mathlib.Core.List.{List}
 use native.Mathlib.Omega.{arith}
 use lib.ListN.{length, getD}
 use lib.Dec.{ltb, leb, eqb}
-use Rattle.wire.specs.Numbers.{halfAt, wordAt}
-use Rattle.wire.specs.Ranges.{fits}
-use Rattle.record.specs.Limits.{powerRange, inputRange, intervalRange}
-use Rattle.peak.specs.Pairs.{pairFits, pairAt}
+use lib.Ieee.{Float, lt}
+use Rattle.wire.specs.Numbers.{halfAt, wordAt, bytesAt}
+use Rattle.wire.specs.Ranges.{fits, also}
+use Rattle.wire.specs.declared.Range.{Range}
+use Rattle.wire.specs.declared.Range.the-variants.{Fits, Big}
+use Rattle.record.specs.Limits.{powerRange, inputRange, intervalRange, nameByte, nameRange}
+use Rattle.peak.specs.Pairs.{finite, pairFits, pairAt}
+use Rattle.peak.specs.Floats.{floatOf}
+use Rattle.peak.proofs.Order.{pair-test}
 use Rattle.record.specs.Layout.{bitOf}
-use Rattle.record.specs.Form.{allFine, headFields, radioFields, inputFields, switchFields, pairFields}
+use Rattle.record.specs.Form.{several, allFine, headFields, radioFields, inputFields, switchFields, pairFields}
 use Rattle.form.proofs.Tests.{fits-low, fits-filter}
 
 module _ (s : List ℕ) where
@@ -31,9 +36,33 @@ module _ (s : List ℕ) where
   pub switches-is : (interval : Bool) (w : ℕ) → interval ≡ fits (intervalRange (getD s 20 0)) → w ≡ wordAt s 21 → ((ltb (getD s 19 0) 16 && interval) && ltb w 64) ≡ allFine (switchFields s)
   switches-is interval w e f = rw (e, f, fits-filter (wordAt s 21)) (simp (and-assoc, and-true))
 
-  abbrev pairAtFits : ℕ → Bool
-  pairAtFits at = pairFits (bitOf (getD s 3 0) 8) (pairAt s at)
+  module _ (reading : Bool) where
+    abbrev pairAtFits : ℕ → Bool
+    pairAtFits at = pairFits reading (pairAt s at)
 
-  pub pairs-is : (a b c d e f : Bool) → a ≡ pairAtFits 75 → b ≡ pairAtFits 83 → c ≡ pairAtFits 91 → d ≡ pairAtFits 99 → e ≡ pairAtFits 107 → f ≡ pairAtFits 115
-      → (((((a && b) && c) && d) && e) && f) ≡ allFine (pairFields s)
-  pairs-is a b c d e f ha hb hc hd he hf = rw (ha, hb, hc, hd, he, hf) (simp (and-assoc, and-true))
+    pub pairs-is : (a b c d e f : Bool) → a ≡ pairAtFits 75 → b ≡ pairAtFits 83 → c ≡ pairAtFits 91 → d ≡ pairAtFits 99 → e ≡ pairAtFits 107 → f ≡ pairAtFits 115
+        → (((((a && b) && c) && d) && e) && f) ≡ allFine (several 6 8 pairAtFits 75)
+    pairs-is a b c d e f ha hb hc hd he hf = rw (ha, hb, hc, hd, he, hf) (simp (and-assoc, and-true))
+
+    pub pairs-by : bitOf (getD s 3 0) 8 ≡ reading → allFine (several 6 8 pairAtFits 75) ≡ allFine (pairFields s)
+    pairs-by e = rw e refl
+
+  -- a pair of two patterns, by the floats of finite ones
+  module _ (at greatest smallest : ℕ) (g : greatest ≡ wordAt s at) (k : smallest ≡ wordAt s (at + 4)) where
+    pub pair-not : (finite greatest && finite smallest) ≡ false → false ≡ pairFits true (pairAt s at)
+    pair-not e = rw (← g, ← k, e) refl
+
+    pub pair-by : greatest < 0x100000000 → smallest < 0x100000000 → finite greatest ≡ true → finite smallest ≡ true → (x y : Float) → x ≡ floatOf greatest → y ≡ floatOf smallest
+        → not (lt x y) ≡ pairFits true (pairAt s at)
+    pair-by G S p q x y e f = rw (← g, ← k, e, f, p, q) (rw (p, q) at (pair-test greatest smallest G S))
+
+  low-name : (b : ℕ) (x : Range) → fits (also (nameByte b) x) ≡ (leb b 0x7F && fits x)
+  low-name b x = by (leb b 0x7F)
+    where
+      by : (t : Bool) → fits (also (cond t Fits Big) x) ≡ (t && fits x)
+      by true = refl
+      by false = refl
+
+  pub name-room-is : ((((((((((((((leb (getD s 26 0) 127 && leb (getD s 27 0) 127) && leb (getD s 28 0) 127) && leb (getD s 29 0) 127) && leb (getD s 30 0) 127) && leb (getD s 31 0) 127) && leb (getD s 32 0) 127) && leb (getD s 33 0) 127) && leb (getD s 34 0) 127) && leb (getD s 35 0) 127) && leb (getD s 36 0) 127) && leb (getD s 37 0) 127) && leb (getD s 38 0) 127) && leb (getD s 39 0) 127) && leb (getD s 40 0) 127) ≡ fits (nameRange (bytesAt 15 s 26))
+  unfolding nameRange
+  name-room-is = simp (low-name, and-assoc, and-true)

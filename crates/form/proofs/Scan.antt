@@ -1,6 +1,6 @@
 -- Scans over the bytes from a place up to another, one byte at a time.
 use Prim.Native.Nat.{ℕ, zero, suc, _+_, _-_, _≤_, _<_}
-use mathlib.Core.Path.{_≡_, refl}
+use mathlib.Core.Path.{_≡_, refl, _∙_}
 use mathlib.Core.Bool.{true, false}
 use mathlib.Core.List.{List, [], _∷_}
 use native.Mathlib.Numerals.{add-one}
@@ -8,6 +8,7 @@ use native.Mathlib.Omega.{arith}
 use lib.ListN.{length, getD, take, drop}
 use lib.Seq.{drop-cons}
 use borrow.Author.Tests.{eq-eqb, ne-eqb, le-leb, lt-leb}
+use Rattle.wire.specs.Numbers.{wordAt}
 use Rattle.wire.specs.Ranges.{fits}
 use Rattle.record.specs.Limits.{nameRange, beforeZero}
 use Rattle.record.specs.Form.{allZero}
@@ -51,6 +52,18 @@ module _ (s : List ℕ) (at to : ℕ) (h : at < to) (l : to ≤ length s) where
   pub first-hit : getD s at 0 ≡ 0 → length (beforeZero (part s at to)) ≡ 0
   unfolding beforeZero
   first-hit e = rw (part-cons s at to h l, e) refl
+
+-- four bytes at once
+pub zero-word : (s : List ℕ) (at to : ℕ) → 4 ≤ to - at → to ≤ length s → wordAt s at ≡ 0 → allZero (part s at to) ≡ allZero (part s (at + 4) to)
+zero-word s at to h l e =
+    let a = zero-skip s at to (omega arith) l (omega (arith, e)) in
+    let b : allZero (part s (at + 1) to) ≡ allZero (part s (at + 2) to) = rw (after 1) at (zero-skip s (at + 1) to (omega arith) l (omega (arith, e))) in
+    let c : allZero (part s (at + 2) to) ≡ allZero (part s (at + 3) to) = rw (after 2) at (zero-skip s (at + 2) to (omega arith) l (omega (arith, e))) in
+    let d : allZero (part s (at + 3) to) ≡ allZero (part s (at + 4) to) = rw (after 3) at (zero-skip s (at + 3) to (omega arith) l (omega (arith, e))) in
+    a ∙ b ∙ c ∙ d
+  where
+    after : (k : ℕ) → at + k + 1 ≡ at + (k + 1)
+    after k = omega arith
 
 -- nothing is left
 module _ (s : List ℕ) (at to : ℕ) (h : to ≤ at) where

@@ -1,15 +1,16 @@
 // Which bytes are a board record: one function for each group of fields, in record order.
 ghost use mathlib.Core.Path.{_≡_};
+ghost use mathlib.Core.Bool.{true, false};
 ghost use Prim.Native.Nat.{_+_, _-_, _≤_};
-ghost use lib.ListN.{length, getD, take, drop};
+ghost use lib.ListN.{length, take, drop};
+ghost use Rattle.wire.specs.Numbers.{bytesAt};
 ghost use Rattle.wire.specs.Ranges.{fits};
 ghost use Rattle.wire.specs.Frames.{waits};
 ghost use Rattle.wire.specs.Serial.{serial};
 ghost use Rattle.peak.specs.Pairs.{pairFits, pairAt};
-ghost use Rattle.record.specs.Layout.{bitOf};
 ghost use Rattle.record.specs.Limits.{powerRange, intervalRange, nameRange, beforeZero};
-ghost use Rattle.record.specs.Form.{allFine, allZero, headFields, radioFields, inputFields, switchFields, nameFields, modelFields, pendingFields, pairFields, formOf};
-use peak::float_of;
+ghost use Rattle.record.specs.Form.{several, allFine, allZero, headFields, radioFields, inputFields, switchFields, nameFields, modelFields, pendingFields, pairFields, formOf};
+use peak::finite_float;
 use peak::is_finite;
 use record::Form;
 use wire::numbers::half_at;
@@ -57,12 +58,27 @@ fn switches_fine(s: &[u8]) -> bool
     (s[19] < 16) & interval & (word_at(s, 21) < 64)
 }
 
+// The place behind those words of four zeros that stand from a place on.
+fn past_zeros(s: &[u8], from: usize, to: usize) -> usize
+    requires { ⌜ (from ≤ to) × (to ≤ length (now s)) ⌝ }
+    ensures { λ r. ⌜ (r ≤ to) × (allZero (take (to - from) (drop from (now (s .entry)))) ≡ allZero (take (to - r) (drop r (now (s .entry))))) ⌝ }
+{
+    let mut at = from;
+    while 4 <= to - at {
+        if word_at(s, at) != 0 {
+            return at;
+        }
+        at += 4;
+    }
+    at
+}
+
 // Whether the bytes from a place up to another are all zero.
 fn zeros(s: &[u8], from: usize, to: usize) -> bool
     requires { ⌜ (from ≤ to) × (to ≤ length (now s)) ⌝ }
     ensures { λ r. ⌜ r ≡ allZero (take (to - from) (drop from (now (s .entry)))) ⌝ }
 {
-    let mut at = from;
+    let mut at = past_zeros(s, from, to);
     while at < to {
         if s[at] != 0 {
             return false;
@@ -102,6 +118,28 @@ pub fn first_zero(s: &[u8], from: usize, to: usize) -> usize
     at
 }
 
+// Whether the whole room of the name holds bytes that may stand in one: zeros behind it may.
+fn name_room(s: &[u8]) -> bool
+    requires { ⌜ length (now s) ≡ 123 ⌝ }
+    ensures { λ r. ⌜ r ≡ fits (nameRange (bytesAt 15 (now (s .entry)) 26)) ⌝ }
+{
+    (s[26] <= 0x7F)
+        & (s[27] <= 0x7F)
+        & (s[28] <= 0x7F)
+        & (s[29] <= 0x7F)
+        & (s[30] <= 0x7F)
+        & (s[31] <= 0x7F)
+        & (s[32] <= 0x7F)
+        & (s[33] <= 0x7F)
+        & (s[34] <= 0x7F)
+        & (s[35] <= 0x7F)
+        & (s[36] <= 0x7F)
+        & (s[37] <= 0x7F)
+        & (s[38] <= 0x7F)
+        & (s[39] <= 0x7F)
+        & (s[40] <= 0x7F)
+}
+
 fn name_fine(s: &[u8]) -> bool
     requires { ⌜ length (now s) ≡ 123 ⌝ }
     ensures { λ r. ⌜ r ≡ allFine (nameFields (now (s .entry))) ⌝ }
@@ -110,7 +148,7 @@ fn name_fine(s: &[u8]) -> bool
     if 15 < n {
         return false;
     }
-    if name_bytes(s, 26, 26 + n) {
+    if name_room(s) {
         return zeros(s, 26 + n, 41);
     }
     false
@@ -156,35 +194,60 @@ fn pending_fine(s: &[u8]) -> bool
     false
 }
 
-// Whether a pair is in range, with or without a reading seen.
-fn pair_fine(reading: bool, greatest: u32, smallest: u32) -> bool
-    ensures { λ r. ⌜ r ≡ pairFits reading (record { greatest = greatest; smallest = smallest }) ⌝ }
+// Whether a pair is none: both patterns zero.
+fn pair_none(s: &[u8], at: usize) -> bool
+    requires { ⌜ at + 8 ≤ length (now s) ⌝ }
+    ensures { λ r. ⌜ r ≡ pairFits false (pairAt (now (s .entry)) at) ⌝ }
 {
-    if !reading {
-        return (greatest == 0) & (smallest == 0);
-    }
-    let below = float_of(greatest) < float_of(smallest);
-    is_finite(greatest) & is_finite(smallest) & !below
+    (word_at(s, at) == 0) & (word_at(s, at + 4) == 0)
 }
 
-fn pair_at_fine(s: &[u8], at: usize) -> bool
-    requires { ⌜ (length (now s) ≡ 123) × (at + 8 ≤ 123) ⌝ }
-    ensures { λ r. ⌜ r ≡ pairFits (bitOf (getD (now (s .entry)) 3 0) 8) (pairAt (now (s .entry)) at) ⌝ }
+// Whether a pair is finite, and its smallest value not above its greatest.
+fn pair_seen(s: &[u8], at: usize) -> bool
+    requires { ⌜ at + 8 ≤ length (now s) ⌝ }
+    ensures { λ r. ⌜ r ≡ pairFits true (pairAt (now (s .entry)) at) ⌝ }
 {
-    pair_fine(s[3] / 8 % 2 == 1, word_at(s, at), word_at(s, at + 4))
+    let greatest = word_at(s, at);
+    let smallest = word_at(s, at + 4);
+    if !(is_finite(greatest) & is_finite(smallest)) {
+        return false;
+    }
+    let below = finite_float(greatest) < finite_float(smallest);
+    !below
+}
+
+fn pairs_none(s: &[u8]) -> bool
+    requires { ⌜ length (now s) ≡ 123 ⌝ }
+    ensures { λ r. ⌜ r ≡ allFine (several 6 8 (λ at. pairFits false (pairAt (now (s .entry)) at)) 75) ⌝ }
+{
+    pair_none(s, 75)
+        & pair_none(s, 83)
+        & pair_none(s, 91)
+        & pair_none(s, 99)
+        & pair_none(s, 107)
+        & pair_none(s, 115)
+}
+
+fn pairs_seen(s: &[u8]) -> bool
+    requires { ⌜ length (now s) ≡ 123 ⌝ }
+    ensures { λ r. ⌜ r ≡ allFine (several 6 8 (λ at. pairFits true (pairAt (now (s .entry)) at)) 75) ⌝ }
+{
+    pair_seen(s, 75)
+        & pair_seen(s, 83)
+        & pair_seen(s, 91)
+        & pair_seen(s, 99)
+        & pair_seen(s, 107)
+        & pair_seen(s, 115)
 }
 
 fn pairs_fine(s: &[u8]) -> bool
     requires { ⌜ length (now s) ≡ 123 ⌝ }
     ensures { λ r. ⌜ r ≡ allFine (pairFields (now (s .entry))) ⌝ }
 {
-    let a = pair_at_fine(s, 75);
-    let b = pair_at_fine(s, 83);
-    let c = pair_at_fine(s, 91);
-    let d = pair_at_fine(s, 99);
-    let e = pair_at_fine(s, 107);
-    let f = pair_at_fine(s, 115);
-    a & b & c & d & e & f
+    if s[3] / 8 % 2 == 1 {
+        return pairs_seen(s);
+    }
+    pairs_none(s)
 }
 
 pub fn form_of(s: &[u8]) -> Form

@@ -14,11 +14,8 @@ cast-n c = omega (arith, c .shared-slice-known2 .given 25)
 returns : tie.Need-returns
 returns c = let z = c .before .before .before in name-long (z .args .s .now) (z .pre) (c .if1 .taken)
 
-add-name-bytes : tie.Need-add-name-bytes
-add-name-bytes c = search needs
-
-name-bytes-requires : tie.Need-name-bytes-requires
-name-bytes-requires c κs = search needs
+name-room-requires : tie.Need-name-room-requires
+name-room-requires c κs = search needs
 
 add-zeros : tie.Need-add-zeros
 add-zeros c = search needs
@@ -27,10 +24,10 @@ zeros-requires : tie.Need-zeros-requires
 zeros-requires c κs = search needs
 
 returns-2 : tie.Need-returns-2
-returns-2 c = let z = c .before .before .before .before .before .before in c .zeros .ensures ∙ name-zeros (z .args .s .now) (z .pre) (omega (arith, c .before .before .before .if1 .left)) (sym (c .before .before .name-bytes .ensures) ∙ c .before .if2 .taken)
+returns-2 c = let z = c .before .before .before .before .before .before in c .zeros .ensures ∙ name-zeros (z .args .s .now) (z .pre) (omega (arith, c .before .before .before .if1 .left)) (sym (c .before .before .name-room .ensures) ∙ c .before .if2 .taken)
 
 returns-3 : tie.Need-returns-3
-returns-3 c = let z = c .before .before .before .before .before in name-bad (z .args .s .now) (z .pre) (omega (arith, c .before .before .if1 .left)) (sym (c .before .name-bytes .ensures) ∙ c .if2 .left)
+returns-3 c = let z = c .before .before .before .before .before in name-bad (z .args .s .now) (z .pre) (omega (arith, c .before .before .if1 .left)) (sym (c .before .name-room .ensures) ∙ c .if2 .left)
 
 pub name-fine-spec : {M : Type 1} → statement M
 name-fine-spec =
@@ -39,8 +36,7 @@ name-fine-spec =
     shared-slice-read-n
     cast-n
     returns
-    add-name-bytes
-    name-bytes-requires
+    name-room-requires
     add-zeros
     zeros-requires
     returns-2

@@ -1,40 +1,32 @@
-use Rattle.form.proofs.Groups.{pairs-is}
+use Rattle.form.proofs.Groups.{pairs-by}
+use mathlib.Core.Bool.{true, false}
+use mathlib.Core.Path.{_∙_}
+use borrow.Author.Tests.{eq-eqb, ne-eqb}
 use borrow.Author.Needs.{needs}
 use Rattle.form.proofs.pairs_fine.Statement.{statement}
 use Rattle.form.proofs.pairs_fine.Tie as tie
 
-pair-at-fine-requires : tie.Need-pair-at-fine-requires
-pair-at-fine-requires c κs = search needs
+shared-slice-read-if1 : tie.Need-shared-slice-read-if1
+shared-slice-read-if1 c = search needs
 
-pair-at-fine-requires-2 : tie.Need-pair-at-fine-requires-2
-pair-at-fine-requires-2 c κs = search needs
-
-pair-at-fine-requires-3 : tie.Need-pair-at-fine-requires-3
-pair-at-fine-requires-3 c κs = search needs
-
-pair-at-fine-requires-4 : tie.Need-pair-at-fine-requires-4
-pair-at-fine-requires-4 c κs = search needs
-
-pair-at-fine-requires-5 : tie.Need-pair-at-fine-requires-5
-pair-at-fine-requires-5 c κs = search needs
-
-pair-at-fine-requires-6 : tie.Need-pair-at-fine-requires-6
-pair-at-fine-requires-6 c κs = search needs
+pairs-seen-requires : tie.Need-pairs-seen-requires
+pairs-seen-requires c κs = search needs
 
 returns : tie.Need-returns
-returns c =
-    pairs-is (c .before .before .before .before .before .before .before .args .s .now) _ _ _ _ _ _ (c .before .before .before .before .before .pair-at-fine .ensures)
-    (c .before .before .before .before .pair-at-fine2 .ensures) (c .before .before .before .pair-at-fine3 .ensures) (c .before .before .pair-at-fine4 .ensures)
-    (c .before .pair-at-fine5 .ensures) (c .pair-at-fine6 .ensures)
+returns c = c .pairs-seen .ensures ∙ pairs-by (c .before .before .before .before .args .s .now) true (eq-eqb _ 1 (c .before .if1 .taken))
+
+pairs-none-requires : tie.Need-pairs-none-requires
+pairs-none-requires c κs = search needs
+
+returns-2 : tie.Need-returns-2
+returns-2 c = c .pairs-none .ensures ∙ pairs-by (c .before .before .before .before .args .s .now) false (ne-eqb _ 1 (c .before .if1 .left))
 
 pub pairs-fine-spec : {M : Type 1} → statement M
 pairs-fine-spec =
     tie.close
     (tie.spec
-    pair-at-fine-requires
-    pair-at-fine-requires-2
-    pair-at-fine-requires-3
-    pair-at-fine-requires-4
-    pair-at-fine-requires-5
-    pair-at-fine-requires-6
-    returns)
+    shared-slice-read-if1
+    pairs-seen-requires
+    returns
+    pairs-none-requires
+    returns-2)

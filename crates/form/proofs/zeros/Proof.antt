@@ -3,6 +3,7 @@ use Prim.Native.Nat.{_-_, _≤_}
 use mathlib.Core.Path.{_≡_, refl, sym, _∙_}
 use Rattle.form.proofs.Scan.{part, zero-skip, zero-hit, zero-end}
 use Rattle.record.specs.Form.{allZero}
+use borrow.Author.Needs.{needs}
 use Rattle.form.proofs.zeros.Statement.{statement}
 use Rattle.form.proofs.zeros.Tie as tie
 
@@ -12,8 +13,11 @@ Inv-loop s from to at₀ at = (at ≤ to) × (allZero (part s from to) ≡ allZe
 abbrev μ-loop : tie.MeasureT-loop
 μ-loop s from to at₀ at = to - at
 
+past-zeros-requires : tie.Need-past-zeros-requires Inv-loop μ-loop
+past-zeros-requires c κs = search needs
+
 loop-holds : tie.Need-loop-holds Inv-loop μ-loop
-loop-holds c = (omega arith, refl)
+loop-holds c = c .past-zeros .ensures
 
 shared-slice-read-if1 : tie.Need-shared-slice-read-if1 Inv-loop μ-loop
 shared-slice-read-if1 c = omega arith
@@ -21,7 +25,7 @@ shared-slice-read-if1 c = omega arith
 returns : tie.Need-returns Inv-loop μ-loop
 returns c =
     let l = c .before .before .before .loop in
-    let a = c .before .before .before .before .args in
+    let a = c .before .before .before .before .before .before .args in
     sym (l .inv .1 ∙ zero-hit (a .s .now) (l .at) (a .to) (omega arith) (omega arith) (c .if1 .taken))
 
 add-at : tie.Need-add-at Inv-loop μ-loop
@@ -33,13 +37,13 @@ loop-less c = omega arith
 loop-again : tie.Need-loop-again Inv-loop μ-loop
 loop-again c =
     let l = c .before .before .before .loop in
-    let a = c .before .before .before .before .args in
+    let a = c .before .before .before .before .before .before .args in
     (omega arith, l .inv .1 ∙ zero-skip (a .s .now) (l .at) (a .to) (omega arith) (omega arith) (c .if1 .left))
 
 returns-2 : tie.Need-returns-2 Inv-loop μ-loop
 returns-2 c =
     let l = c .before .loop in
-    let a = c .before .before .args in
+    let a = c .before .before .before .before .args in
     sym (l .inv .1 ∙ zero-end (a .s .now) (l .at) (a .to) (omega arith))
 
 pub zeros-spec : {M : Type 1} → statement M
@@ -48,6 +52,7 @@ zeros-spec =
     (tie.spec
     Inv-loop
     μ-loop
+    past-zeros-requires
     loop-holds
     shared-slice-read-if1
     returns
