@@ -1,125 +1,113 @@
 use native.Mathlib.Omega.{arith}
+use Prim.Native.Nat.{ℕ, _+_, _-_, _*_, _/_, _≤_, _<_}
+use mathlib.Core.Path.{_≡_, refl, sym}
+use mathlib.Core.List.{List}
+use lib.ListN.{length, getD, take, drop}
+use Rattle.record.specs.Place.{Sound}
 use Rattle.record.proofs.PlaceLaws.{holds-long}
 use Rattle.hunt.proofs.GoingLaws.{going-sound}
 use Rattle.hunt.proofs.JoinLaws.{held-is, held-few, total-is, stream-long, first-kept, short-first, serves-first, rest-long, from-inside, rest-fits, serves-second}
-use lib.ListN.{getD}
-use Prim.Native.Nat.{_-_}
-use mathlib.Core.Path.{refl, sym}
 use borrow.Author.Needs.{needs}
 use Rattle.hunt.proofs.serve.Statement.{statement}
 use Rattle.hunt.proofs.serve.Tie as tie
 
+-- behind the join
+module _ (j : tie.After-join) where
+  abbrev rec₀ : List ℕ
+  rec₀ = j .before .before .before .before .before .before .before .args .rec .now
+
+  abbrev input : List ℕ
+  input = j .before .before .before .before .before .before .before .args .input .now
+
+  abbrev out₀ : List ℕ
+  out₀ = j .before .before .before .before .before .before .before .args .out .now
+
+  abbrev held : ℕ
+  held = getD rec₀ 56 0
+
+  abbrev head : List ℕ
+  head = j .join .last .1 .1 .1 .0
+
+  abbrev total : ℕ
+  total = j .join .result
+
+  sound : Sound rec₀
+  sound = j .before .before .before .before .before .before .before .pre .0
+
+  few : held ≤ 18
+  few = held-few rec₀ sound
+
+  long : length (take total head) ≡ total
+  long = stream-long rec₀ sound input out₀ head total (j .join .ensures)
+
+  sum : total ≡ held + (length input - (length input - 19))
+  sum = total-is rec₀ sound input out₀ head total (j .join .ensures)
+
+-- behind the hunt through the joined head
+module _ (f : tie.After-hunt-in) where
+  abbrev j : tie.After-join
+  j = f .before .before .before .before .before
+
+  abbrev at : ℕ
+  at = f .hunt-in .result .at
+
+  abbrev rec₁ : List ℕ
+  rec₁ = f .hunt-in .last .0
+
+  abbrev out₁ : List ℕ
+  out₁ = f .hunt-in .last .1 .1 .1 .0
+
+  within : at ≤ total j
+  within = omega (arith, long j, f .hunt-in .ensures .going .sofar .along .within)
+
+  waits-short : at < held j → (length rec₁ ≡ 123) × (length (take (total j - at) (drop at (head j))) ≤ 18)
+  waits-short a = (
+    first-kept (rec₀ j) (sound j) (input j) (out₀ j) (head j) (total j) (j .join .ensures) (f .hunt-in .result) rec₁ out₁ (f .hunt-in .ensures),
+    short-first (rec₀ j) (sound j) (input j) (out₀ j) (head j) (total j) (j .join .ensures) (f .hunt-in .result) rec₁ out₁ (f .hunt-in .ensures) a,
+  )
+
+  -- the hunt goes on in the input
+  module _ (past : held j ≤ at) where
+    starts : at - held j ≤ length (input j)
+    starts = from-inside (rec₀ j) (sound j) (input j) (out₀ j) (head j) (total j) (j .join .ensures) (f .hunt-in .result) rec₁ out₁ (f .hunt-in .ensures) past (j .before .before .before .before .before .before .before .pre .1 .1)
+
+    fits : f .hunt-in .result .wrote + 19 * (length (take (length (input j) - (at - held j)) (drop (at - held j) (input j))) / 4) ≤ length out₁
+    fits = rest-fits (rec₀ j) (sound j) (input j) (out₀ j) (head j) (total j) (j .join .ensures) (f .hunt-in .result) rec₁ out₁ (f .hunt-in .ensures) past (j .before .before .before .before .before .before .before .pre .1 .1)
+
 slice-read-held : tie.Need-slice-read-held
-slice-read-held c =
-    let z = c .before .before .before .before in
-    let s = z .args .rec .now in
-    let sound = z .pre .0 in
-    omega (arith, holds-long _ _ sound)
+slice-read-held c = omega (arith, holds-long _ _ (c .before .before .before .before .pre .0))
 
 cast-held : tie.Need-cast-held
-cast-held c =
-    let z = c .before .before .before .before in
-    let s = z .args .rec .now in
-    let sound = z .pre .0 in
-    omega (arith, held-few s sound)
+cast-held c = let z = c .before .before .before .before in omega (arith, held-few (z .args .rec .now) (z .pre .0))
 
 slice-aggregate-join : tie.Need-slice-aggregate-join
 slice-aggregate-join c = search needs
 
 join-requires : tie.Need-join-requires
-join-requires c κs =
-    let z = c .before .before .before .before .before .before in
-    let s = z .args .rec .now in
-    let sound = z .pre .0 in
-    (holds-long _ _ sound, held-few s sound, refl)
+join-requires c κs = let z = c .before .before .before .before .before .before in (holds-long _ _ (z .pre .0), held-few (z .args .rec .now) (z .pre .0), refl)
 
 array-share-prefix-head : tie.Need-array-share-prefix-head
-array-share-prefix-head c =
-    let z = c .before .before .before .before .before .before .before .before .before in
-    let s = z .args .rec .now in
-    let sound = z .pre .0 in
-    let head = c .before .before .join .last .1 .1 .1 .0 in
-    let total = c .before .before .join .result in
-    let j = c .before .before .join .ensures in
-    let long = stream-long s sound (z .args .input .now) (z .args .out .now) head total j in
-    let sum = total-is s sound (z .args .input .now) (z .args .out .now) head total j in
-    omega (arith, sum, held-few s sound, c .before .before .join .kept)
+array-share-prefix-head c = let j = c .before .before in omega (arith, sum j, few j, j .join .kept)
 
 slice-aggregate-hunt-in : tie.Need-slice-aggregate-hunt-in
-slice-aggregate-hunt-in c =
-    let z = c .before .before .before .before .before .before .before .before .before .before in
-    let s = z .args .rec .now in
-    let sound = z .pre .0 in
-    let head = c .before .before .before .join .last .1 .1 .1 .0 in
-    let total = c .before .before .before .join .result in
-    let j = c .before .before .before .join .ensures in
-    let long = stream-long s sound (z .args .input .now) (z .args .out .now) head total j in
-    let sum = total-is s sound (z .args .input .now) (z .args .out .now) head total j in
-    sym long
+slice-aggregate-hunt-in c = sym (long (c .before .before .before))
 
 hunt-in-requires : tie.Need-hunt-in-requires
 hunt-in-requires c κs =
-    let z = c .before .before .before .before .before .before .before .before .before .before .before in
-    let s = z .args .rec .now in
-    let sound = z .pre .0 in
-    let head = c .before .before .before .before .join .last .1 .1 .1 .0 in
-    let total = c .before .before .before .before .join .result in
-    let j = c .before .before .before .before .join .ensures in
-    let long = stream-long s sound (z .args .input .now) (z .args .out .now) head total j in
-    let sum = total-is s sound (z .args .input .now) (z .args .out .now) head total j in
-    (sound, ((omega (arith, long, sum), omega (arith, long, sum, held-few s sound)), omega (arith, long, sum, held-is s sound, z .pre .1 .1)))
+    let j = c .before .before .before .before in
+    (sound j, ((omega (arith, long j, sum j), omega (arith, long j, sum j, few j)), omega (arith, long j, sum j, held-is (rec₀ j) (sound j), j .before .before .before .before .before .before .before .pre .1 .1)))
 
 sub-set-pending : tie.Need-sub-set-pending
-sub-set-pending c =
-    let z = c .before .before .before .before .before .before .before .before .before .before .before .before .before .before .before .before .before .before in
-    let s = z .args .rec .now in
-    let sound = z .pre .0 in
-    let head = c .before .before .before .before .before .before .before .before .before .before .before .join .last .1 .1 .1 .0 in
-    let total = c .before .before .before .before .before .before .before .before .before .before .before .join .result in
-    let j = c .before .before .before .before .before .before .before .before .before .before .before .join .ensures in
-    let long = stream-long s sound (z .args .input .now) (z .args .out .now) head total j in
-    let sum = total-is s sound (z .args .input .now) (z .args .out .now) head total j in
-    let h = c .before .before .before .before .before .before .hunt-in in
-    omega (arith, long, h .ensures .going .sofar .along .within)
+sub-set-pending c = within (c .before .before .before .before .before .before)
 
 part-set-pending-start : tie.Need-part-set-pending-start
-part-set-pending-start c =
-    let z = c .before .before .before .before .before .before .before .before .before .before .before .before .before .before .before .before .before .before .before in
-    let s = z .args .rec .now in
-    let sound = z .pre .0 in
-    let head = c .before .before .before .before .before .before .before .before .before .before .before .before .join .last .1 .1 .1 .0 in
-    let total = c .before .before .before .before .before .before .before .before .before .before .before .before .join .result in
-    let j = c .before .before .before .before .before .before .before .before .before .before .before .before .join .ensures in
-    let long = stream-long s sound (z .args .input .now) (z .args .out .now) head total j in
-    let sum = total-is s sound (z .args .input .now) (z .args .out .now) head total j in
-    let h = c .before .before .before .before .before .before .before .hunt-in in
-    omega (arith, long, h .ensures .going .sofar .along .within)
+part-set-pending-start c = within (c .before .before .before .before .before .before .before)
 
 part-set-pending-end : tie.Need-part-set-pending-end
-part-set-pending-end c =
-    let z = c .before .before .before .before .before .before .before .before .before .before .before .before .before .before .before .before .before .before .before in
-    let s = z .args .rec .now in
-    let sound = z .pre .0 in
-    let head = c .before .before .before .before .before .before .before .before .before .before .before .before .join .last .1 .1 .1 .0 in
-    let total = c .before .before .before .before .before .before .before .before .before .before .before .before .join .result in
-    let j = c .before .before .before .before .before .before .before .before .before .before .before .before .join .ensures in
-    let long = stream-long s sound (z .args .input .now) (z .args .out .now) head total j in
-    let sum = total-is s sound (z .args .input .now) (z .args .out .now) head total j in
-    let h = c .before .before .before .before .before .before .before .hunt-in in
-    omega (arith, sum, held-few s sound, c .before .before .before .before .before .before .before .before .before .before .before .before .join .kept)
+part-set-pending-end c = let j = c .before .before .before .before .before .before .before .before .before .before .before .before in omega (arith, sum j, few j, j .join .kept)
 
 set-pending-requires : tie.Need-set-pending-requires
-set-pending-requires c κs =
-    let z = c .before .before .before .before .before .before .before .before .before .before .before .before .before .before .before .before .before .before .before .before in
-    let s = z .args .rec .now in
-    let sound = z .pre .0 in
-    let head = c .before .before .before .before .before .before .before .before .before .before .before .before .before .join .last .1 .1 .1 .0 in
-    let total = c .before .before .before .before .before .before .before .before .before .before .before .before .before .join .result in
-    let j = c .before .before .before .before .before .before .before .before .before .before .before .before .before .join .ensures in
-    let long = stream-long s sound (z .args .input .now) (z .args .out .now) head total j in
-    let sum = total-is s sound (z .args .input .now) (z .args .out .now) head total j in
-    let h = c .before .before .before .before .before .before .before .before .hunt-in in
-    (first-kept s sound (z .args .input .now) (z .args .out .now) head total j (h .result) (h .last .0) (h .last .1 .1 .1 .0) (h .ensures), short-first s sound (z .args .input .now) (z .args .out .now) head total j (h .result) (h .last .0) (h .last .1 .1 .1 .0) (h .ensures) (c .before .before .before .if1 .taken))
+set-pending-requires c κs = waits-short (c .before .before .before .before .before .before .before .before) (c .before .before .before .if1 .taken)
 
 same-length : tie.Need-same-length
 same-length c = search needs
@@ -129,73 +117,34 @@ same-length-2 c = search needs
 
 returns : tie.Need-returns
 returns c =
-    let z = c .before .before .before .before .before .before .before .before .before .before .before .before .before .before .before .before .before .before .before .before .before .before .before in
-    let s = z .args .rec .now in
-    let sound = z .pre .0 in
-    let head = c .before .before .before .before .before .before .before .before .before .before .before .before .before .before .before .before .join .last .1 .1 .1 .0 in
-    let total = c .before .before .before .before .before .before .before .before .before .before .before .before .before .before .before .before .join .result in
-    let j = c .before .before .before .before .before .before .before .before .before .before .before .before .before .before .before .before .join .ensures in
-    let long = stream-long s sound (z .args .input .now) (z .args .out .now) head total j in
-    let sum = total-is s sound (z .args .input .now) (z .args .out .now) head total j in
-    let h = c .before .before .before .before .before .before .before .before .before .before .before .hunt-in in
-    serves-first s sound (z .args .input .now) (z .args .out .now) head total j (h .result) (h .last .0) (h .last .1 .1 .1 .0) (h .ensures) (c .before .before .before .before .before .before .if1 .taken) _ (c .before .before .set-pending .ensures)
+    let f = c .before .before .before .before .before .before .before .before .before .before .before in
+    let j = f .before .before .before .before .before in
+    serves-first (rec₀ j) (sound j) (input j) (out₀ j) (head j) (total j) (j .join .ensures) (f .hunt-in .result) (rec₁ f) (out₁ f) (f .hunt-in .ensures) (c .before .before .before .before .before .before .if1 .taken) _ (c .before .before .set-pending .ensures)
 
 sub-hunt-rest : tie.Need-sub-hunt-rest
-sub-hunt-rest c =
-    let z = c .before .before .before .before .before .before .before .before .before .before .before .before .before .before .before .before .before .before in
-    let s = z .args .rec .now in
-    let sound = z .pre .0 in
-    let head = c .before .before .before .before .before .before .before .before .before .before .before .join .last .1 .1 .1 .0 in
-    let total = c .before .before .before .before .before .before .before .before .before .before .before .join .result in
-    let j = c .before .before .before .before .before .before .before .before .before .before .before .join .ensures in
-    let long = stream-long s sound (z .args .input .now) (z .args .out .now) head total j in
-    let sum = total-is s sound (z .args .input .now) (z .args .out .now) head total j in
-    let h = c .before .before .before .before .before .before .hunt-in in
-    from-inside s sound (z .args .input .now) (z .args .out .now) head total j (h .result) (h .last .0) (h .last .1 .1 .1 .0) (h .ensures) (omega (arith, c .before .if1 .left)) (z .pre .1 .1)
+sub-hunt-rest c = starts (c .before .before .before .before .before .before) (omega (arith, c .before .if1 .left))
 
 part-hunt-rest-start : tie.Need-part-hunt-rest-start
-part-hunt-rest-start c =
-    let z = c .before .before .before .before .before .before .before .before .before .before .before .before .before .before .before .before .before .before in
-    let s = z .args .rec .now in
-    let sound = z .pre .0 in
-    let head = c .before .before .before .before .before .before .before .before .before .before .before .join .last .1 .1 .1 .0 in
-    let total = c .before .before .before .before .before .before .before .before .before .before .before .join .result in
-    let j = c .before .before .before .before .before .before .before .before .before .before .before .join .ensures in
-    let long = stream-long s sound (z .args .input .now) (z .args .out .now) head total j in
-    let sum = total-is s sound (z .args .input .now) (z .args .out .now) head total j in
-    let h = c .before .before .before .before .before .before .hunt-in in
-    from-inside s sound (z .args .input .now) (z .args .out .now) head total j (h .result) (h .last .0) (h .last .1 .1 .1 .0) (h .ensures) (omega (arith, c .before .if1 .left)) (z .pre .1 .1)
+part-hunt-rest-start c = starts (c .before .before .before .before .before .before) (omega (arith, c .before .if1 .left))
 
 part-hunt-rest-end : tie.Need-part-hunt-rest-end
 part-hunt-rest-end c = search needs
 
 hunt-rest-requires : tie.Need-hunt-rest-requires
 hunt-rest-requires c κs =
-    let z = c .before .before .before .before .before .before .before .before .before .before .before .before .before .before .before .before .before .before .before .before in
-    let s = z .args .rec .now in
-    let sound = z .pre .0 in
-    let head = c .before .before .before .before .before .before .before .before .before .before .before .before .before .join .last .1 .1 .1 .0 in
-    let total = c .before .before .before .before .before .before .before .before .before .before .before .before .before .join .result in
-    let j = c .before .before .before .before .before .before .before .before .before .before .before .before .before .join .ensures in
-    let long = stream-long s sound (z .args .input .now) (z .args .out .now) head total j in
-    let sum = total-is s sound (z .args .input .now) (z .args .out .now) head total j in
-    let h = c .before .before .before .before .before .before .before .before .hunt-in in
-    (going-sound _ _ _ _ _ _ _ _ _ (h .ensures .going), (omega (arith, z .pre .1 .0, rest-long (z .args .input .now) (h .result .at - getD s 56 0)), rest-fits s sound (z .args .input .now) (z .args .out .now) head total j (h .result) (h .last .0) (h .last .1 .1 .1 .0) (h .ensures) (omega (arith, c .before .before .before .if1 .left)) (z .pre .1 .1)))
+    let f = c .before .before .before .before .before .before .before .before in
+    let j = f .before .before .before .before .before in (
+      going-sound _ _ _ _ _ _ _ _ _ (f .hunt-in .ensures .going),
+      (omega (arith, j .before .before .before .before .before .before .before .pre .1 .0, rest-long (input j) (at f - held j)), fits f (omega (arith, c .before .before .before .if1 .left))),
+    )
 
 add-t35 : tie.Need-add-t35
 add-t35 c =
-    let z = c .before .before .before .before .before .before .before .before .before .before .before .before .before .before .before .before .before .before .before .before .before .before .before .before .before .before .before in
-    let s = z .args .rec .now in
-    let sound = z .pre .0 in
-    let head = c .before .before .before .before .before .before .before .before .before .before .before .before .before .before .before .before .before .before .before .before .join .last .1 .1 .1 .0 in
-    let total = c .before .before .before .before .before .before .before .before .before .before .before .before .before .before .before .before .before .before .before .before .join .result in
-    let j = c .before .before .before .before .before .before .before .before .before .before .before .before .before .before .before .before .before .before .before .before .join .ensures in
-    let long = stream-long s sound (z .args .input .now) (z .args .out .now) head total j in
-    let sum = total-is s sound (z .args .input .now) (z .args .out .now) head total j in
-    let h = c .before .before .before .before .before .before .before .before .before .before .before .before .before .before .before .hunt-in in
+    let f = c .before .before .before .before .before .before .before .before .before .before .before .before .before .before .before in
+    let j = f .before .before .before .before .before in
     let x = c .before .before .before .before .before .before .hunt-rest .ensures .hunts .going .sofar .along in
-    let y = h .ensures .going .sofar .along in
-    omega (arith, x .few, x .within, y .few, y .within, long, sum, held-few s sound, z .pre .1 .0, rest-long (z .args .input .now) (h .result .at - getD s 56 0))
+    let y = f .hunt-in .ensures .going .sofar .along in
+    omega (arith, x .few, x .within, y .few, y .within, long j, sum j, few j, j .before .before .before .before .before .before .before .pre .1 .0, rest-long (input j) (at f - held j))
 
 same-length-3 : tie.Need-same-length-3
 same-length-3 c = search needs
@@ -205,16 +154,10 @@ same-length-4 c = search needs
 
 returns-2 : tie.Need-returns-2
 returns-2 c =
-    let z = c .before .before .before .before .before .before .before .before .before .before .before .before .before .before .before .before .before .before .before .before .before .before .before .before .before .before .before in
-    let s = z .args .rec .now in
-    let sound = z .pre .0 in
-    let head = c .before .before .before .before .before .before .before .before .before .before .before .before .before .before .before .before .before .before .before .before .join .last .1 .1 .1 .0 in
-    let total = c .before .before .before .before .before .before .before .before .before .before .before .before .before .before .before .before .before .before .before .before .join .result in
-    let j = c .before .before .before .before .before .before .before .before .before .before .before .before .before .before .before .before .before .before .before .before .join .ensures in
-    let long = stream-long s sound (z .args .input .now) (z .args .out .now) head total j in
-    let sum = total-is s sound (z .args .input .now) (z .args .out .now) head total j in
-    let h = c .before .before .before .before .before .before .before .before .before .before .before .before .before .before .before .hunt-in in
-    serves-second s sound (z .args .input .now) (z .args .out .now) head total j (h .result) (h .last .0) (h .last .1 .1 .1 .0) (h .ensures) (omega (arith, c .before .before .before .before .before .before .before .before .before .before .if1 .left)) (z .pre .1 .1) (c .before .before .before .before .before .before .hunt-rest .result) _ _ (c .before .before .before .before .before .before .hunt-rest .ensures)
+    let f = c .before .before .before .before .before .before .before .before .before .before .before .before .before .before .before in
+    let j = f .before .before .before .before .before in
+    let rest = c .before .before .before .before .before .before .hunt-rest in
+    serves-second (rec₀ j) (sound j) (input j) (out₀ j) (head j) (total j) (j .join .ensures) (f .hunt-in .result) (rec₁ f) (out₁ f) (f .hunt-in .ensures) (omega (arith, c .before .before .before .before .before .before .before .before .before .before .if1 .left)) (j .before .before .before .before .before .before .before .pre .1 .1) (rest .result) _ _ (rest .ensures)
 
 pub serve-spec : {M : Type 1} → statement M
 serve-spec =
