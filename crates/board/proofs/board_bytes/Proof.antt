@@ -2,10 +2,33 @@ use native.Mathlib.Omega.{arith}
 use Rattle.board.proofs.Ends.{good-long, good-sound}
 use Rattle.hunt.proofs.JoinLaws.{held-is, held-few}
 use Rattle.board.proofs.BytesEnds.{served-small, bytes-bad-record, bytes-bad-length, bytes-no-room, bytes-done}
-use mathlib.Core.Path.{refl, sym, _∙_}
+use Prim.Native.Nat.{ℕ}
+use mathlib.Core.Path.{_≡_, refl, sym, _∙_}
+use mathlib.Core.List.{List}
+use Rattle.wire.specs.Numbers.{Bytes}
+use Rattle.record.specs.Form.{formOf}
+use Rattle.record.specs.Place.{Sound}
+use Rattle.record.specs.declared.Form.the-variants.{Good}
 use borrow.Author.Needs.{needs}
 use Rattle.board.proofs.board_bytes.Statement.{statement}
 use Rattle.board.proofs.board_bytes.Tie as tie
+
+-- a record that passed the check
+module _ (g : tie.After-enum-told) where
+  abbrev rec₀ : List ℕ
+  rec₀ = g .before .before .before .before .before .before .before .args .rec .now
+
+  bytes : Bytes rec₀
+  bytes i = g .before .before .before .before .before .before .slice-known .given i .fits
+
+  input-bytes : Bytes (g .before .before .before .before .before .before .before .args .input .now)
+  input-bytes i = g .before .before .before .before .before .shared-slice-known .given i .fits
+
+  good : formOf rec₀ ≡ Good
+  good = sym (g .before .before .form-of .ensures) ∙ g .enum-told .given .1
+
+  sound : Sound rec₀
+  sound = good-sound rec₀ bytes good
 
 form-of-requires : tie.Need-form-of-requires
 form-of-requires c κs = search needs
@@ -36,27 +59,19 @@ same-length-2 c = search needs
 returns-2 : tie.Need-returns-2
 returns-2 c =
     let z = c .before .before .before .before .before .before .before .before .before .args in
-    bytes-bad-length (z .rec .now) (z .input .now) (z .out .now) _ (sym (c .before .before .before .before .form-of .ensures) ∙ c .before .before .enum-told .given .1) (c .before .if1 .taken) (c .ended2 .ensures)
+    bytes-bad-length (z .rec .now) (z .input .now) (z .out .now) _ (good (c .before .before)) (c .before .if1 .taken) (c .ended2 .ensures)
 
 slice-read-held : tie.Need-slice-read-held
-slice-read-held c =
-    let z = c .before .before .before .before .before .before .before .before .before .args in
-    omega (arith, good-long (z .rec .now) (sym (c .before .before .before .before .form-of .ensures) ∙ c .before .before .enum-told .given .1))
+slice-read-held c = omega (arith, good-long (rec₀ (c .before .before)) (good (c .before .before)))
 
 cast-held : tie.Need-cast-held
-cast-held c =
-    let z = c .before .before .before .before .before .before .before .before .before .args in
-    omega (arith, held-few (z .rec .now) (good-sound (z .rec .now) (λ i. omega (arith, c .before .before .before .before .before .before .before .before .slice-known .given i)) (sym (c .before .before .before .before .form-of .ensures) ∙ c .before .before .enum-told .given .1)))
+cast-held c = omega (arith, held-few (rec₀ (c .before .before)) (sound (c .before .before)))
 
 add-if2 : tie.Need-add-if2
-add-if2 c =
-    let z = c .before .before .before .before .before .before .before .before .before .args in
-    omega (arith, held-few (z .rec .now) (good-sound (z .rec .now) (λ i. omega (arith, c .before .before .before .before .before .before .before .before .slice-known .given i)) (sym (c .before .before .before .before .form-of .ensures) ∙ c .before .before .enum-told .given .1)), c .before .if1 .left)
+add-if2 c = omega (arith, held-few (rec₀ (c .before .before)) (sound (c .before .before)), c .before .if1 .left)
 
 mul-if2 : tie.Need-mul-if2
-mul-if2 c =
-    let z = c .before .before .before .before .before .before .before .before .before .args in
-    omega (arith, held-few (z .rec .now) (good-sound (z .rec .now) (λ i. omega (arith, c .before .before .before .before .before .before .before .before .slice-known .given i)) (sym (c .before .before .before .before .form-of .ensures) ∙ c .before .before .enum-told .given .1)), c .before .if1 .left)
+mul-if2 c = omega (arith, held-few (rec₀ (c .before .before)) (sound (c .before .before)), c .before .if1 .left)
 
 ended-requires-3 : tie.Need-ended-requires-3
 ended-requires-3 c κs = search needs
@@ -67,22 +82,27 @@ same-length-3 c = search needs
 returns-3 : tie.Need-returns-3
 returns-3 c =
     let z = c .before .before .before .before .before .before .before .before .before .before .before .args in
-    bytes-no-room (z .rec .now) (z .input .now) (z .out .now) _ (sym (c .before .before .before .before .before .before .form-of .ensures) ∙ c .before .before .before .before .enum-told .given .1) (λ i. omega (arith, c .before .before .before .before .before .before .before .before .before .before .slice-known .given i)) (omega (arith, c .before .before .before .if1 .left)) (c .before .if2 .taken) (c .ended3 .ensures)
+    let g = c .before .before .before .before in
+    bytes-no-room (z .rec .now) (z .input .now) (z .out .now) _ (good g) (bytes g) (omega (arith, c .before .before .before .if1 .left)) (c .before .if2 .taken) (c .ended3 .ensures)
 
 serve-requires : tie.Need-serve-requires
 serve-requires c κs =
-    let z = c .before .before .before .before .before .before .before .before .before .before .before .before .args in
-    (good-sound (z .rec .now) (λ i. omega (arith, c .before .before .before .before .before .before .before .before .before .before .before .slice-known .given i)) (sym (c .before .before .before .before .before .before .before .form-of .ensures) ∙ c .before .before .before .before .before .enum-told .given .1), ((omega (arith, c .before .before .before .before .if1 .left)), omega (arith, held-is (z .rec .now) (good-sound (z .rec .now) (λ i. omega (arith, c .before .before .before .before .before .before .before .before .before .before .before .slice-known .given i)) (sym (c .before .before .before .before .before .before .before .form-of .ensures) ∙ c .before .before .before .before .before .enum-told .given .1)), c .before .before .if2 .left)))
+    let g = c .before .before .before .before .before in
+    (sound g, (omega (arith, c .before .before .before .before .if1 .left), omega (arith, held-is (rec₀ g) (sound g), c .before .before .if2 .left)))
 
 cast-t24 : tie.Need-cast-t24
 cast-t24 c =
     let z = c .before .before .before .before .before .before .before .before .before .before .before .before .before .before .before .before .before .before .args in
-    omega (arith, served-small (z .rec .now) (z .input .now) (z .out .now) (c .before .before .before .before .before .serve .result) _ _ (good-sound (z .rec .now) (λ i. omega (arith, c .before .before .before .before .before .before .before .before .before .before .before .before .before .before .before .before .before .slice-known .given i)) (sym (c .before .before .before .before .before .before .before .before .before .before .before .before .before .form-of .ensures) ∙ c .before .before .before .before .before .before .before .before .before .before .before .enum-told .given .1)) (λ i. omega (arith, c .before .before .before .before .before .before .before .before .before .before .before .before .before .before .before .before .shared-slice-known .given i)) (omega (arith, c .before .before .before .before .before .before .before .before .before .before .if1 .left)) (c .before .before .before .before .before .serve .ensures) .0)
+    let g = c .before .before .before .before .before .before .before .before .before .before .before in
+    let s = c .before .before .before .before .before .serve in
+    omega (arith, served-small (z .rec .now) (z .input .now) (z .out .now) (s .result) _ _ (sound g) (input-bytes g) (omega (arith, c .before .before .before .before .before .before .before .before .before .before .if1 .left)) (s .ensures) .0)
 
 cast-t25 : tie.Need-cast-t25
 cast-t25 c =
     let z = c .before .before .before .before .before .before .before .before .before .before .before .before .before .before .before .before .before .before .before .args in
-    omega (arith, served-small (z .rec .now) (z .input .now) (z .out .now) (c .before .before .before .before .before .before .serve .result) _ _ (good-sound (z .rec .now) (λ i. omega (arith, c .before .before .before .before .before .before .before .before .before .before .before .before .before .before .before .before .before .before .slice-known .given i)) (sym (c .before .before .before .before .before .before .before .before .before .before .before .before .before .before .form-of .ensures) ∙ c .before .before .before .before .before .before .before .before .before .before .before .before .enum-told .given .1)) (λ i. omega (arith, c .before .before .before .before .before .before .before .before .before .before .before .before .before .before .before .before .before .shared-slice-known .given i)) (omega (arith, c .before .before .before .before .before .before .before .before .before .before .before .if1 .left)) (c .before .before .before .before .before .before .serve .ensures) .1)
+    let g = c .before .before .before .before .before .before .before .before .before .before .before .before in
+    let s = c .before .before .before .before .before .before .serve in
+    omega (arith, served-small (z .rec .now) (z .input .now) (z .out .now) (s .result) _ _ (sound g) (input-bytes g) (omega (arith, c .before .before .before .before .before .before .before .before .before .before .before .if1 .left)) (s .ensures) .1)
 
 same-length-4 : tie.Need-same-length-4
 same-length-4 c = search needs
@@ -93,7 +113,9 @@ same-length-5 c = search needs
 returns-4 : tie.Need-returns-4
 returns-4 c =
     let z = c .before .before .before .before .before .before .before .before .before .before .before .before .before .before .before .before .before .before .before .args in
-    bytes-done (z .rec .now) (z .input .now) (z .out .now) _ (sym (c .before .before .before .before .before .before .before .before .before .before .before .before .before .before .form-of .ensures) ∙ c .before .before .before .before .before .before .before .before .before .before .before .before .enum-told .given .1) (λ i. omega (arith, c .before .before .before .before .before .before .before .before .before .before .before .before .before .before .before .before .before .before .slice-known .given i)) (omega (arith, c .before .before .before .before .before .before .before .before .before .before .before .if1 .left)) (omega (arith, c .before .before .before .before .before .before .before .before .before .if2 .left)) (c .before .before .before .before .before .before .serve .result) _ _ (c .before .before .before .before .before .before .serve .ensures) refl
+    let g = c .before .before .before .before .before .before .before .before .before .before .before .before in
+    let s = c .before .before .before .before .before .before .serve in
+    bytes-done (z .rec .now) (z .input .now) (z .out .now) _ (good g) (bytes g) (omega (arith, c .before .before .before .before .before .before .before .before .before .before .before .if1 .left)) (omega (arith, c .before .before .before .before .before .before .before .before .before .if2 .left)) (s .result) _ _ (s .ensures) refl
 
 pub board-bytes-spec : {M : Type 1} → statement M
 board-bytes-spec =

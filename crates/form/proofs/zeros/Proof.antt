@@ -1,6 +1,6 @@
 use native.Mathlib.Omega.{arith}
 use Prim.Native.Nat.{_-_, _≤_}
-use mathlib.Core.Path.{_≡_, refl, sym, _∙_}
+use mathlib.Core.Path.{_≡_, sym, _∙_}
 use Rattle.form.proofs.Scan.{part, zero-skip, zero-hit, zero-end}
 use Rattle.record.specs.Form.{allZero}
 use borrow.Author.Needs.{needs}
