@@ -1,4 +1,5 @@
 // The words of the command tables and of the judge; what they mean is in the definitions.
+
 // The commands of both tables, in the order of the tables.
 pub enum Command {
     Open,

@@ -1,4 +1,4 @@
-// Bytes on the wire: numbers, buffers, frames.
+// Bytes on the wire: numbers, buffers, replies.
 pub mod buffer;
 pub mod numbers;
 pub mod reply;
