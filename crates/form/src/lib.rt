@@ -63,14 +63,14 @@ fn past_zeros(s: &[u8], from: usize, to: usize) -> usize
     requires { ⌜ (from ≤ to) × (to ≤ length (now s)) ⌝ }
     ensures { λ r. ⌜ (r ≤ to) × (allZero (take (to - from) (drop from (now (s .entry)))) ≡ allZero (take (to - r) (drop r (now (s .entry))))) ⌝ }
 {
-    let mut at = from;
-    while 4 <= to - at {
-        if word_at(s, at) != 0 {
-            return at;
+    let mut behind = from;
+    while 4 <= to - behind {
+        if word_at(s, behind) != 0 {
+            return behind;
         }
-        at += 4;
+        behind += 4;
     }
-    at
+    behind
 }
 
 // Whether the bytes from a place up to another are all zero.

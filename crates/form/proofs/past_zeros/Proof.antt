@@ -7,10 +7,10 @@ use Rattle.form.proofs.past_zeros.Statement.{statement}
 use Rattle.form.proofs.past_zeros.Tie as tie
 
 abbrev Inv-loop : tie.InvT-loop
-Inv-loop s from to at₀ at = (at ≤ to) × (allZero (part s from to) ≡ allZero (part s at to))
+Inv-loop s from to behind₀ behind = (behind ≤ to) × (allZero (part s from to) ≡ allZero (part s behind to))
 
 abbrev μ-loop : tie.MeasureT-loop
-μ-loop s from to at₀ at = to - at
+μ-loop s from to behind₀ behind = to - behind
 
 loop-holds : tie.Need-loop-holds Inv-loop μ-loop
 loop-holds c = (omega arith, refl)
@@ -24,8 +24,8 @@ word-at-requires c κs = omega arith
 returns : tie.Need-returns Inv-loop μ-loop
 returns c = c .before .before .before .loop .inv
 
-add-at : tie.Need-add-at Inv-loop μ-loop
-add-at c = omega arith
+add-behind : tie.Need-add-behind Inv-loop μ-loop
+add-behind c = omega arith
 
 loop-less : tie.Need-loop-less Inv-loop μ-loop
 loop-less c = omega arith
@@ -34,7 +34,7 @@ loop-again : tie.Need-loop-again Inv-loop μ-loop
 loop-again c =
     let l = c .before .before .before .loop in
     let a = c .before .before .before .before .before .args in
-    (omega arith, l .inv .1 ∙ zero-word (a .s .now) (l .at) (a .to) (omega arith) (omega arith) (sym (c .before .word-at .ensures) ∙ c .if1 .left))
+    (omega arith, l .inv .1 ∙ zero-word (a .s .now) (l .behind) (a .to) (omega arith) (omega arith) (sym (c .before .word-at .ensures) ∙ c .if1 .left))
 
 returns-2 : tie.Need-returns-2 Inv-loop μ-loop
 returns-2 c = c .before .loop .inv
@@ -49,7 +49,7 @@ past-zeros-spec =
     sub-loop
     word-at-requires
     returns
-    add-at
+    add-behind
     loop-less
     loop-again
     returns-2)
