@@ -16,6 +16,43 @@ extern "C" {
 #define BOARD_SAMPLE_SIZE 24
 #define BOARD_FRAME_SIZE 28
 
+/* Where each field of a record starts, and the size of those that are longer than a byte. */
+#define BOARD_AT_LENGTH 0
+#define BOARD_LENGTH_SIZE 2
+#define BOARD_AT_VERSION 2
+#define BOARD_AT_FLAGS 3
+#define BOARD_AT_TRIES 4
+#define BOARD_AT_CODE 5
+#define BOARD_CODE_SIZE 4
+#define BOARD_AT_POWER 9
+#define BOARD_POWER_SIZE 2
+#define BOARD_AT_STEP 11
+#define BOARD_AT_MODE 12
+#define BOARD_AT_ON_OFF 13
+#define BOARD_AT_INPUT_TYPES 14
+#define BOARD_INPUT_TYPES_SIZE 5
+#define BOARD_AT_OUTPUTS 19
+#define BOARD_AT_INTERVAL 20
+#define BOARD_AT_FILTER 21
+#define BOARD_FILTER_SIZE 4
+#define BOARD_AT_NAME_LENGTH 25
+#define BOARD_AT_NAME 26
+#define BOARD_NAME_SIZE 15
+#define BOARD_AT_MODEL 41
+#define BOARD_MODEL_SIZE 15
+#define BOARD_AT_PENDING_LENGTH 56
+#define BOARD_AT_PENDING 57
+#define BOARD_PENDING_SIZE 18
+#define BOARD_AT_PAIRS 75
+#define BOARD_PAIR_SIZE 8
+#define BOARD_PAIRS_SIZE 48
+
+/* Bits of the flags. */
+#define BOARD_FLAG_OPEN 1
+#define BOARD_FLAG_UNLOCKED 2
+#define BOARD_FLAG_SENDING 4
+#define BOARD_FLAG_READING 8
+
 /* The output that board_bytes asks for: 19 times the whole part of (pending + input) / 4. */
 #define BOARD_ROOM(pending, input_len) (19 * (((size_t)(pending) + (size_t)(input_len)) / 4))
 
