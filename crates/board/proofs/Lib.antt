@@ -5,3 +5,4 @@ pub mod Empty
 pub mod Ends
 pub mod SampleEnds
 pub mod BytesEnds
+pub mod Exported

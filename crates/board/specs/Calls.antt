@@ -110,3 +110,7 @@ pub record Leaves (z : Outcome) (answer : Answer) (kept output : List ℕ) : Typ
   pub answered : answer ≡ z .answer
   pub keeps : kept ≡ z .kept
   pub puts : output ≡ z .output
+
+-- a contract that says `Leaves z` allows the outcome x
+abbrev pub Allows : Outcome → Outcome → Type 0
+Allows z x = Leaves z (x .answer) (x .kept) (x .output)

@@ -14,9 +14,9 @@ use Rattle.record.specs.Layout.{atFlags, bytesOf, recordOf}
 use Rattle.record.specs.Births.{factory}
 use Rattle.board.specs.declared.Ending.the-variants.{Done, BadRecord}
 use Rattle.board.specs.Calls.{Outcome, refused, bytesCall}
+use Rattle.board.proofs.Exported.{allowed-is}
 use Rattle.demands.specs.Examples.{opening}
 use Rattle.demands.specs.Boards.{Board, Frame, RefusesAll, SaysDone, DoesNothing, FirstOnly, InventsCount, ShutOut, WrongShutOut, KindsExist}
-use Rattle.demands.proofs.Unique.{allowed-is}
 use Rattle.demands.proofs.Ending.{ends-properly}
 use Rattle.demands.proofs.Carried.{answers-as-listed}
 

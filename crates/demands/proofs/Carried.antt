@@ -1,29 +1,36 @@
 -- One frame by its checks, and frames one after the other.
-use Prim.Native.Nat.{ℕ, _+_}
+use Prim.Native.Nat.{ℕ, _+_, _-_}
 use mathlib.Core.Path.{_≡_, refl, sym, ap, _∙_}
 use mathlib.Core.Logic.{_≢_}
+use mathlib.Core.Bool.{Bool, true, false}
 use mathlib.Core.List.{List, _∷_}
 use native.Mathlib.Omega.{arith}
-use lib.ListN.{length, getD}
-use borrow.Author.Tests.{lt-ltb, le-leb, lt-leb, eq-eqb, ne-eqb}
+use lib.ListN.{length, getD, List·getD-eq-default}
+use lib.Dec.{ltb, eqb}
+use borrow.Author.Tests.{lt-ltb, le-leb, lt-leb, eq-eqb, ne-eqb, eqb-true, ltb-true, ltb-false}
 use Rattle.wire.specs.Frames.{Whole, Broken}
 use Rattle.wire.specs.Serial.{serial, headOf, numberOf, paramsOf}
-use Rattle.wire.specs.Replies.{Reply, replyBytes, written}
+use Rattle.wire.specs.Replies.{Reply, kindOf, replyBytes, written}
 use Rattle.wire.specs.Run.{runs, hunt}
 use Rattle.wire.proofs.CutLaws.{cut-wait, cut-skip, cut-take, cut-tear}
 use Rattle.wire.proofs.SerialLaws.{look-lines}
 use Rattle.wire.proofs.RunLaws.{runs-append}
+use Rattle.peak.specs.Pairs.{Pair, noPair, pairFits, pairBytes}
+use Rattle.peak.proofs.PairLaws.{both}
 use Rattle.record.specs.Record.{Record, withTries}
+use Rattle.record.specs.Layout.{channels}
 use Rattle.command.specs.declared.Command.{Command}
+use Rattle.command.specs.declared.Command.the-variants.{ReadPair}
 use Rattle.command.specs.declared.Refusal.{Refusal}
 use Rattle.command.specs.declared.Refusal.the-variants.{Unknown, Unbuilt, Parameters, NoAccess, BadCode, TooBig, TooSmall}
 use Rattle.command.specs.declared.Verdict.{Verdict}
 use Rattle.command.specs.declared.Verdict.the-variants.{Do, Refuse}
 use Rattle.command.specs.Judge.{statusOf, byNumber}
+use Rattle.command.specs.Effects.{effectOf, dataOf}
 use Rattle.command.specs.Step.{stepOf, leftBy, settled, answer}
 use Rattle.command.proofs.Refused.{verdict-is, verdict, step-is, passed, takes-effect, refused-silent}
 use Rattle.hunt.specs.Hunt.{huntOf, recordAfter}
-use Rattle.demands.specs.Carried.{number, Legal, Carried, announced, SixLines, InTurn, AnswersAsListed}
+use Rattle.demands.specs.Carried.{number, Legal, Carried, BeforeReading, announced, SixLines, InTurn, AnswersAsListed}
 use Rattle.demands.proofs.Ending.{factory-done, power-on-done, bytes-done, samples-done}
 
 module _ (r : Record) (f : List ℕ) where
@@ -79,6 +86,23 @@ module _ (r : Record) (f : List ℕ) where
     unchanged = kept-by (verdict r f) refl;
   }
 
+-- without a reading a pair that fits is zero, and so is one that is not there
+zero-pair : (p : Pair) → pairFits false p ≡ true → p ≡ noPair
+zero-pair p e =
+    let w = both (eqb (p .greatest) 0) (eqb (p .smallest) 0) e in
+    λ i. record { greatest = eqb-true (p .greatest) 0 (w .0) i; smallest = eqb-true (p .smallest) 0 (w .1) i }
+
+before-reading : BeforeReading
+unfolding effectOf dataOf
+before-reading r f range none legal = carried r f .effect ReadPair legal ∙ ap (λ (p : Pair). record { after = r; reply = record { kind = kindOf (headOf f); status = 0x00; body = 0x00 ∷ pairBytes p } }) (go (ltb k channels) refl)
+  where
+    k : ℕ
+    k = getD (paramsOf f) 0 0 - 1
+
+    go : (t : Bool) → ltb k channels ≡ t → getD (r .pairs) k noPair ≡ noPair
+    go true e = zero-pair (getD (r .pairs) k noPair) (ap (λ (b : Bool). pairFits b (getD (r .pairs) k noPair)) (sym none) ∙ range .pairs k (ltb-true k channels e))
+    go false e = List·getD-eq-default (r .pairs) noPair (omega (arith, range .six, ltb-false k channels e))
+
 -- ---- the hunt
 
 module _ (l : List ℕ) where
@@ -108,4 +132,4 @@ in-turn = record {
 }
 
 pub answers-as-listed : AnswersAsListed
-answers-as-listed = record { carried = carried; hunted = hunted; in-turn = in-turn; others = record { new-record = factory-done; switched-on = power-on-done; reading = samples-done } }
+answers-as-listed = record { carried = carried; before-reading = before-reading; hunted = hunted; in-turn = in-turn; others = record { new-record = factory-done; switched-on = power-on-done; reading = samples-done } }

@@ -6,3 +6,4 @@ pub mod Carried
 pub mod Boards
 pub mod OtherCode
 pub mod Secrecy
+pub mod Demands

@@ -1,11 +1,8 @@
 -- Two outcomes that a contract allows are equal.
 use mathlib.Core.Path.{_≡_, refl, sym, _∙_}
-use Rattle.board.specs.Calls.{Outcome, factoryCall, powerOnCall, bytesCall, samplesCall}
-use Rattle.demands.specs.Unique.{Allows, One, Unique}
-
--- what a contract allows is the outcome that it names
-pub allowed-is : (z x : Outcome) → Allows z x → x ≡ z
-allowed-is z x h = λ i. record { answer = h .answered i; kept = h .keeps i; output = h .puts i }
+use Rattle.board.specs.Calls.{Outcome, factoryCall, powerOnCall, bytesCall, samplesCall, Allows}
+use Rattle.board.proofs.Exported.{allowed-is}
+use Rattle.demands.specs.Unique.{One, Unique}
 
 pub allowed-own : (z : Outcome) → Allows z z
 allowed-own z = record { answered = refl; keeps = refl; puts = refl }

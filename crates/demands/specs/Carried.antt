@@ -4,7 +4,7 @@ use mathlib.Core.Path.{_≡_}
 use mathlib.Core.Logic.{_↔_, _≢_}
 use mathlib.Core.Bool.{true, false, cond}
 use mathlib.Core.List.{List, [], _∷_, _++_}
-use lib.ListN.{length, getD, take, drop}
+use lib.ListN.{length, getD, take, drop, replicate}
 use Rattle.wire.specs.Frames.{Piece, Whole, Broken, stop, skipOne, carryOut, tearOne, cut}
 use Rattle.wire.specs.Serial.{isHead, serial, headOf, numberOf, paramsOf}
 use Rattle.wire.specs.Replies.{Reply, kindOf, written}
@@ -13,8 +13,10 @@ use Rattle.wire.specs.declared.Range.{Range}
 use Rattle.wire.specs.declared.Range.the-variants.{Fits, Big, Small}
 use Rattle.record.specs.Record.{Record, withTries, withPending}
 use Rattle.record.specs.Layout.{recordSize, channels, recordOf}
+use Rattle.record.specs.Form.{InRange}
 use Rattle.record.specs.Births.{factory, poweredOn}
 use Rattle.command.specs.declared.Command.{Command}
+use Rattle.command.specs.declared.Command.the-variants.{ReadPair}
 use Rattle.command.specs.declared.Listed.{Listed}
 use Rattle.command.specs.declared.Listed.the-variants.{Built, NotBuilt, Unlisted}
 use Rattle.command.specs.declared.Counted.{Counted}
@@ -68,6 +70,10 @@ module _ (r : Record) (f : List ℕ) where
     pub too-small : (c : Command) → number ≡ Built c → count c ≡ Right → access c ≡ Given → range c ≡ Small → Answers r 0x55 []
     -- and changes nothing but the tries.
     pub unchanged : stepOf r f .reply .status ≢ 0x00 → withTries (stepOf r f .after) (r .tries) ≡ r
+
+-- Before any reading 53 gives 00 and eight zero bytes.
+abbrev pub BeforeReading : Type 0
+BeforeReading = (r : Record) (f : List ℕ) → InRange r → r .flags .reading ≡ false → Legal r f ReadPair → Answers r f r 0x00 (0x00 ∷ replicate 8 0x00)
 
 -- ---- a stream l: the hunt from the left
 
@@ -126,6 +132,7 @@ pub record OtherCalls : Type 0 where
 -- The board answers as the tables say.
 pub record AnswersAsListed : Type 0 where
   pub carried : (r : Record) (f : List ℕ) → Carried r f
+  pub before-reading : BeforeReading
   pub hunted : (l : List ℕ) → SixLines l
   pub in-turn : InTurn
   pub others : OtherCalls

@@ -4,3 +4,4 @@ pub mod Ending
 pub mod Carried
 pub mod Boards
 pub mod Secrecy
+pub mod Demands

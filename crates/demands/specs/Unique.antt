@@ -2,11 +2,7 @@
 use Prim.Native.Nat.{ℕ}
 use mathlib.Core.Path.{_≡_}
 use mathlib.Core.List.{List}
-use Rattle.board.specs.Calls.{Outcome, factoryCall, powerOnCall, bytesCall, samplesCall, Leaves}
-
--- a contract that says `Leaves z` allows the outcome x
-abbrev pub Allows : Outcome → Outcome → Type 0
-Allows z x = Leaves z (x .answer) (x .kept) (x .output)
+use Rattle.board.specs.Calls.{Outcome, factoryCall, powerOnCall, bytesCall, samplesCall, Allows}
 
 -- it allows an outcome, and any two that it allows are equal
 pub record One (z : Outcome) : Type 0 where

@@ -7,8 +7,8 @@ use Rattle.record.specs.declared.Form.the-variants.{Good}
 use Rattle.board.proofs.Ends.{good-sound}
 use Rattle.board.proofs.SampleEnds.{bad-record, bad-length, no-room, not-finite, silent, sent}
 use borrow.Author.Needs.{needs}
-use Rattle.board.proofs.board_samples.Statement.{statement}
-use Rattle.board.proofs.board_samples.Tie as tie
+use Rattle.board.proofs.samples.board_samples.Statement.{statement}
+use Rattle.board.proofs.samples.board_samples.Tie as tie
 
 good : (c : tie.After-enum-told) → formOf (c .before .before .before .before .before .before .before .args .rec .now) ≡ Good
 good c = sym (c .before .before .form-of .ensures) ∙ c .enum-told .given .1

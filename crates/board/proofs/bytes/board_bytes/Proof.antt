@@ -10,8 +10,8 @@ use Rattle.record.specs.Form.{formOf}
 use Rattle.record.specs.Place.{Sound}
 use Rattle.record.specs.declared.Form.the-variants.{Good}
 use borrow.Author.Needs.{needs}
-use Rattle.board.proofs.board_bytes.Statement.{statement}
-use Rattle.board.proofs.board_bytes.Tie as tie
+use Rattle.board.proofs.bytes.board_bytes.Statement.{statement}
+use Rattle.board.proofs.bytes.board_bytes.Tie as tie
 
 -- a record that passed the check
 module _ (g : tie.After-enum-told) where

@@ -1,0 +1,59 @@
+-- The contracts of the four exported calls as they are made from the source: to be read beside the theorems.
+use Prim.Native.Nat.{ℕ}
+use mathlib.Core.Path.{_≡_, refl, sym, _∙_, subst}
+use mathlib.Core.List.{List, []}
+use contract.Lifetimes.{Lfts}
+use denote.Ref.{now}
+use denote.Triple.Clauses.{AtExit}
+use borrow.Fn.Kinds.{PK, RK, In, Out, Dens, resT, endedOf}
+use Rattle.board.specs.Calls.{Outcome, factoryCall, powerOnCall, bytesCall, samplesCall, Allows}
+use Rattle.board.proofs.factory.board_factory.Reads as factory
+use Rattle.board.proofs.factory.board_factory.Kinds as factory-kinds
+use Rattle.board.proofs.power_on.board_power_on.Reads as power-on
+use Rattle.board.proofs.power_on.board_power_on.Kinds as power-on-kinds
+use Rattle.board.proofs.bytes.board_bytes.Reads as bytes
+use Rattle.board.proofs.bytes.board_bytes.Kinds as bytes-kinds
+use Rattle.board.proofs.samples.board_samples.Reads as samples
+use Rattle.board.proofs.samples.board_samples.Kinds as samples-kinds
+
+-- what a contract allows is the outcome that it names
+pub allowed-is : (z x : Outcome) → Allows z x → x ≡ z
+allowed-is z x h = λ i. record { answer = h .answered i; kept = h .keeps i; output = h .puts i }
+
+left : {A : Type 0} (z x : Outcome) → A ≡ Allows z x → A → x ≡ z
+left z x e p = allowed-is z x (subst (λ B. B) e p)
+
+-- a contract over n lifetimes, the parameters ps and the result q; `outcome` is what the call is to leave, `seen` what its caller finds
+module _ {n : ℕ} (ps : List (PK n)) (q : RK n) where
+  pub record Exported (pre : In n ps) (post : Out n ps q) (outcome : (κs : Lfts n) → Dens κs ps → Outcome) (seen : (κs : Lfts n) → resT q κs .Denot → AtExit (endedOf n ps q) κs → Outcome) : Type 1 where
+    -- It asks nothing of its caller.
+    pub asks-nothing : (κs : Lfts n) (a : Dens κs ps) → pre κs a
+    -- It says that the call left exactly its outcome.
+    pub says : (κs : Lfts n) (a : Dens κs ps) (r : resT q κs .Denot) (s : AtExit (endedOf n ps q) κs) → post κs a r s ≡ Allows (outcome κs a) (seen κs r s)
+    -- So two ends that it allows for the same arguments are one outcome.
+    pub one : (κs : Lfts n) (a : Dens κs ps) (r u : resT q κs .Denot) (s v : AtExit (endedOf n ps q) κs) → post κs a r s → post κs a u v → seen κs r s ≡ seen κs u v
+
+  exported : (pre : In n ps) (post : Out n ps q) (outcome : (κs : Lfts n) → Dens κs ps → Outcome) (seen : (κs : Lfts n) → resT q κs .Denot → AtExit (endedOf n ps q) κs → Outcome)
+      → ((κs : Lfts n) (a : Dens κs ps) → pre κs a)
+      → ((κs : Lfts n) (a : Dens κs ps) (r : resT q κs .Denot) (s : AtExit (endedOf n ps q) κs) → post κs a r s ≡ Allows (outcome κs a) (seen κs r s))
+      → Exported pre post outcome seen
+  exported pre post outcome seen asks says = record {
+    asks-nothing = asks;
+    says = says;
+    one = λ κs a r u s v p w. left (outcome κs a) (seen κs r s) (says κs a r s) p ∙ sym (left (outcome κs a) (seen κs u v) (says κs a u v) w);
+  }
+
+-- the first, second and third list that a call is lent, and what it leaves with or without an output buffer
+pub record AllExported : Type 1 where
+  pub factory : Exported factory-kinds.ps factory-kinds.r factory.Pre factory.Post (λ κs a. factoryCall (now (a .0))) (λ κs r s. record { answer = r; kept = now (s .0); output = [] })
+  pub power-on : Exported power-on-kinds.ps power-on-kinds.r power-on.Pre power-on.Post (λ κs a. powerOnCall (now (a .0))) (λ κs r s. record { answer = r; kept = now (s .0); output = [] })
+  pub bytes : Exported bytes-kinds.ps bytes-kinds.r bytes.Pre bytes.Post (λ κs a. bytesCall (now (a .0)) (now (a .1 .0)) (now (a .1 .1 .0))) (λ κs r s. record { answer = r; kept = now (s .0); output = now (s .1 .1 .0) })
+  pub samples : Exported samples-kinds.ps samples-kinds.r samples.Pre samples.Post (λ κs a. samplesCall (now (a .0)) (now (a .1 .0)) (now (a .1 .1 .0))) (λ κs r s. record { answer = r; kept = now (s .0); output = now (s .1 .1 .0) })
+
+pub all-exported : AllExported
+all-exported = record {
+  factory = exported _ _ _ _ _ _ (λ κs a. tt) (λ κs a r s. refl);
+  power-on = exported _ _ _ _ _ _ (λ κs a. tt) (λ κs a r s. refl);
+  bytes = exported _ _ _ _ _ _ (λ κs a. tt) (λ κs a r s. refl);
+  samples = exported _ _ _ _ _ _ (λ κs a. tt) (λ κs a r s. refl);
+}

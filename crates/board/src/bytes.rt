@@ -1,0 +1,30 @@
+// Bytes: received bytes in, replies out.
+ghost use Rattle.board.specs.Calls.{bytesCall, Leaves};
+use crate::Answer;
+use crate::Ending;
+use crate::ended;
+use form::form_of;
+use hunt::serve;
+use record::Form;
+
+#[no_mangle]
+pub extern "C" fn board_bytes(rec: &mut [u8], input: &[u8], out: &mut [u8]) -> Answer
+    ensures { λ a. ⌜ Leaves (bytesCall (now (rec .entry)) (now (input .entry)) (now (out .entry))) a (now (rec .exit)) (now (out .exit)) ⌝ }
+{
+    let Form::Good = form_of(rec) else {
+        return ended(Ending::BadRecord);
+    };
+    if 4096 < input.len() {
+        return ended(Ending::BadLength);
+    }
+    let held = rec[56] as usize;
+    if out.len() < 19 * ((held + input.len()) / 4) {
+        return ended(Ending::NoRoom);
+    }
+    let p = serve(rec, input, out);
+    Answer {
+        result: 0,
+        written: p.written as u32,
+        skipped: p.skipped as u32,
+    }
+}

@@ -1,0 +1,20 @@
+// Power-on: the record as it is after a power cycle.
+ghost use mathlib.Core.List.{[]};
+ghost use Rattle.board.specs.Calls.{powerOnCall, Leaves};
+use crate::Answer;
+use crate::Ending;
+use crate::ended;
+use form::form_of;
+use parts::fresh::switch_on;
+use record::Form;
+
+#[no_mangle]
+pub extern "C" fn board_power_on(rec: &mut [u8]) -> Answer
+    ensures { λ a. ⌜ Leaves (powerOnCall (now (rec .entry))) a (now (rec .exit)) [] ⌝ }
+{
+    let Form::Good = form_of(rec) else {
+        return ended(Ending::BadRecord);
+    };
+    switch_on(rec);
+    ended(Ending::Done)
+}

@@ -1,0 +1,80 @@
+// Samples: one reading of six channels in, a measuring frame out.
+ghost use mathlib.Core.Path.{_≡_};
+ghost use Prim.Native.Nat.{_≤_};
+ghost use lib.ListN.{length};
+ghost use Rattle.wire.specs.Numbers.{put};
+ghost use Rattle.board.specs.Calls.{measured, samplesCall, Leaves};
+use crate::Answer;
+use crate::Ending;
+use crate::ended;
+use form::form_of;
+use reading::peaks::finite_sample;
+use reading::peaks::take_reading;
+use record::Form;
+use wire::buffer::put_in;
+
+// A measuring frame at the start of the output.
+fn put_frame(out: &mut [u8], sample: &[u8])
+    requires { ⌜ 28 ≤ length (now out) ⌝ }
+    requires { ⌜ length (now sample) ≡ 24 ⌝ }
+    ensures { λ _. ⌜ now (out .exit) ≡ put (now (out .entry)) 0 (measured 6 (now (sample .entry))) ⌝ }
+{
+    let frame = [
+        0xAA,
+        0x15,
+        0xB0,
+        sample[0],
+        sample[1],
+        sample[2],
+        sample[3],
+        sample[4],
+        sample[5],
+        sample[6],
+        sample[7],
+        sample[8],
+        sample[9],
+        sample[10],
+        sample[11],
+        sample[12],
+        sample[13],
+        sample[14],
+        sample[15],
+        sample[16],
+        sample[17],
+        sample[18],
+        sample[19],
+        sample[20],
+        sample[21],
+        sample[22],
+        sample[23],
+        0x85,
+    ];
+    put_in(out, 0, &frame);
+}
+
+#[no_mangle]
+pub extern "C" fn board_samples(rec: &mut [u8], sample: &[u8], out: &mut [u8]) -> Answer
+    ensures { λ a. ⌜ Leaves (samplesCall (now (rec .entry)) (now (sample .entry)) (now (out .entry))) a (now (rec .exit)) (now (out .exit)) ⌝ }
+{
+    let Form::Good = form_of(rec) else {
+        return ended(Ending::BadRecord);
+    };
+    if sample.len() != 24 {
+        return ended(Ending::BadLength);
+    }
+    if out.len() < 28 {
+        return ended(Ending::NoRoom);
+    }
+    if !finite_sample(sample) {
+        return ended(Ending::NotFinite);
+    }
+    if take_reading(rec, sample) {
+        put_frame(out, sample);
+        return Answer {
+            result: 0,
+            written: 28,
+            skipped: 0,
+        };
+    }
+    ended(Ending::Done)
+}

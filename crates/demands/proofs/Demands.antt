@@ -1,0 +1,26 @@
+-- The whole claim, each part from its proof.
+use Rattle.board.proofs.Exported.{all-exported}
+use Rattle.demands.specs.Demands.{Demands}
+use Rattle.demands.proofs.Unique.{unique}
+use Rattle.demands.proofs.Ending.{ends-properly}
+use Rattle.demands.proofs.Carried.{answers-as-listed}
+use Rattle.demands.proofs.Boards.{wrong-shut-out, kinds-exist}
+use Rattle.demands.proofs.Examples.{starred-hold}
+use Rattle.demands.proofs.Secrecy.{compared, one-call, nothing-told, nothing-told-used-up, premise-met, premise-needed}
+
+pub demands : Demands
+demands = record {
+  exported = all-exported;
+  unique = unique;
+  ends = ends-properly;
+  answers = answers-as-listed;
+  shut-out = wrong-shut-out;
+  kinds = kinds-exist;
+  examples = starred-hold;
+  compared = compared;
+  one-call = one-call;
+  nothing-told = nothing-told;
+  used-up = nothing-told-used-up;
+  premise-met = premise-met;
+  premise-needed = premise-needed;
+}

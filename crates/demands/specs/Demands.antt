@@ -1,0 +1,27 @@
+-- The whole claim on one page: what each field says stands in the module that it comes from.
+use Rattle.board.proofs.Exported.{AllExported}
+use Rattle.demands.specs.Unique.{Unique}
+use Rattle.demands.specs.Ending.{EndsProperly}
+use Rattle.demands.specs.Carried.{AnswersAsListed}
+use Rattle.demands.specs.Boards.{WrongShutOut, KindsExist}
+use Rattle.demands.specs.Examples.{starred, Holds}
+use Rattle.demands.specs.Secrecy.{Compared, OneCall, NothingTold, NothingToldUsedUp, PremiseMet, PremiseNeeded}
+
+pub record Demands : Type 1 where
+  -- the contracts as they are exported, and that each allows one outcome
+  pub exported : AllExported
+  pub unique : Unique
+  -- 1: every call ends properly
+  pub ends : EndsProperly
+  -- 2: the board answers as the tables say
+  pub answers : AnswersAsListed
+  pub shut-out : WrongShutOut
+  pub kinds : KindsExist
+  pub examples : Holds starred
+  -- 3: nothing is told of the code
+  pub compared : Compared
+  pub one-call : OneCall
+  pub nothing-told : NothingTold
+  pub used-up : NothingToldUsedUp
+  pub premise-met : PremiseMet
+  pub premise-needed : PremiseNeeded
