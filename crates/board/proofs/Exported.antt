@@ -52,8 +52,8 @@ pub record AllExported : Type 1 where
 
 pub all-exported : AllExported
 all-exported = record {
-  factory = exported _ _ _ _ _ _ (λ κs a. tt) (λ κs a r s. refl);
-  power-on = exported _ _ _ _ _ _ (λ κs a. tt) (λ κs a r s. refl);
-  bytes = exported _ _ _ _ _ _ (λ κs a. tt) (λ κs a r s. refl);
-  samples = exported _ _ _ _ _ _ (λ κs a. tt) (λ κs a r s. refl);
+  factory = exported factory-kinds.ps factory-kinds.r factory.Pre factory.Post _ _ (λ κs a. tt) (λ κs a r s. refl);
+  power-on = exported power-on-kinds.ps power-on-kinds.r power-on.Pre power-on.Post _ _ (λ κs a. tt) (λ κs a r s. refl);
+  bytes = exported bytes-kinds.ps bytes-kinds.r bytes.Pre bytes.Post _ _ (λ κs a. tt) (λ κs a r s. refl);
+  samples = exported samples-kinds.ps samples-kinds.r samples.Pre samples.Post _ _ (λ κs a. tt) (λ κs a r s. refl);
 }
