@@ -1,4 +1,11 @@
-/* The radio board of a dental imaging chair: four calls over a record that the caller keeps. */
+/*
+ * The radio board of a dental imaging chair: four calls over a record of 123 bytes that the caller keeps.
+ * examples/chair.c is a whole program.
+ *
+ * Once, where the chair is made: board_factory, write the practice's code into the record, store it.
+ * At each start: load the record, board_power_on.
+ * While running: board_bytes as bytes arrive, board_samples as readings are measured.
+ */
 #ifndef BOARD_H
 #define BOARD_H
 
@@ -9,6 +16,27 @@
 extern "C" {
 #endif
 
+/*
+ * WARNING. What a call cannot check and the caller has to see to:
+ *   - The record, the input and the output of one call must not overlap, not even by a byte.
+ *   - A length must be true: the buffer has at least so many bytes.
+ *   - Nobody else writes to a buffer during the call.
+ *   - A null pointer is allowed with length 0 only.
+ * If one of these is broken, anything may happen. The bytes themselves may be any.
+ */
+
+/* This header's version. The package files (pkgconfig/, cmake/) ask for it by the same number. */
+#define BOARD_VERSION_MAJOR 1
+#define BOARD_VERSION_MINOR 0
+#define BOARD_VERSION_PATCH 0
+#define BOARD_VERSION "1.0.0"
+
+/*
+ * An archive with another record than this header's refuses board_factory with BOARD_BAD_RECORD, or leaves
+ * another number than this at BOARD_AT_VERSION. Other differences cannot be told: keep the two together.
+ */
+#define BOARD_RECORD_VERSION 1
+
 /* Sizes in bytes: a record, the longest input, the most bytes pending, a sample, a measuring frame. */
 #define BOARD_RECORD_SIZE 123
 #define BOARD_INPUT_MOST 4096
@@ -16,47 +44,13 @@ extern "C" {
 #define BOARD_SAMPLE_SIZE 24
 #define BOARD_FRAME_SIZE 28
 
-/* Where each field of a record starts, and the size of those that are longer than a byte. */
-#define BOARD_AT_LENGTH 0
-#define BOARD_LENGTH_SIZE 2
-#define BOARD_AT_VERSION 2
-#define BOARD_AT_FLAGS 3
-#define BOARD_AT_TRIES 4
-#define BOARD_AT_CODE 5
-#define BOARD_CODE_SIZE 4
-#define BOARD_AT_POWER 9
-#define BOARD_POWER_SIZE 2
-#define BOARD_AT_STEP 11
-#define BOARD_AT_MODE 12
-#define BOARD_AT_ON_OFF 13
-#define BOARD_AT_INPUT_TYPES 14
-#define BOARD_INPUT_TYPES_SIZE 5
-#define BOARD_AT_OUTPUTS 19
-#define BOARD_AT_INTERVAL 20
-#define BOARD_AT_FILTER 21
-#define BOARD_FILTER_SIZE 4
-#define BOARD_AT_NAME_LENGTH 25
-#define BOARD_AT_NAME 26
-#define BOARD_NAME_SIZE 15
-#define BOARD_AT_MODEL 41
-#define BOARD_MODEL_SIZE 15
-#define BOARD_AT_PENDING_LENGTH 56
-#define BOARD_AT_PENDING 57
-#define BOARD_PENDING_SIZE 18
-#define BOARD_AT_PAIRS 75
-#define BOARD_PAIR_SIZE 8
-#define BOARD_PAIRS_SIZE 48
-
-/* Bits of the flags. */
-#define BOARD_FLAG_OPEN 1
-#define BOARD_FLAG_UNLOCKED 2
-#define BOARD_FLAG_SENDING 4
-#define BOARD_FLAG_READING 8
-
-/* The output that board_bytes asks for: 19 times the whole part of (pending + input) / 4. */
+/*
+ * The output that board_bytes asks for: 19 times the whole part of (pending + input) / 4.
+ * The pending length stands in the record at BOARD_AT_PENDING_LENGTH; BOARD_PENDING_MOST is always enough.
+ */
 #define BOARD_ROOM(pending, input_len) (19 * (((size_t)(pending) + (size_t)(input_len)) / 4))
 
-/* Enough for board_bytes with any record and any input. */
+/* Enough for board_bytes with any record and any input: 19,532. */
 #define BOARD_ROOM_MOST BOARD_ROOM(BOARD_PENDING_MOST, BOARD_INPUT_MOST)
 
 /* Results. The first that applies is returned. */
@@ -77,24 +71,106 @@ struct board_answer {
     uint32_t result, written, skipped;
 };
 
-/*
- * A caller must not lend buffers that overlap, nor a length that is not the buffer's.
- * A null pointer is allowed with length 0.
- */
-
 /* Writes a new record over any 123 bytes. */
 struct board_answer board_factory(uint8_t *record, size_t record_len);
 
-/* Closes configuration mode, locks, switches outputs off and sending on, drops pending bytes and pairs. */
+/*
+ * Closes configuration mode, locks, gives three new tries, switches outputs off and sending on, drops pending
+ * bytes, pairs and the reading flag. The other fields stay.
+ */
 struct board_answer board_power_on(uint8_t *record, size_t record_len);
 
-/* Received bytes in, replies out; bytes of an unfinished frame wait in the record for the next call. */
+/*
+ * Received bytes in, in any cuts, replies out. An unfinished frame waits in the record for the next call.
+ * A command that the board refuses is no refusal of the call: the result is BOARD_DONE and the reply tells.
+ */
 struct board_answer board_bytes(uint8_t *record, size_t record_len, const uint8_t *input, size_t input_len,
                                 uint8_t *output, size_t output_len);
 
-/* One reading of six channels in (32-bit floats, high byte first), a measuring frame out if sending is on. */
+/*
+ * One reading of channels 1 to 6 in (32-bit floats, high byte first), a measuring frame out if sending is on.
+ * With sending off nothing is written, but the reading counts for the pairs.
+ */
 struct board_answer board_samples(uint8_t *record, size_t record_len, const uint8_t *sample,
                                   size_t sample_len, uint8_t *output, size_t output_len);
+
+/*
+ * The record. It may be read between calls; writing is left to the calls, but for the code.
+ * BOARD_AT_ is where a field starts; one without a size has one byte. Numbers are high byte first.
+ * In brackets: range and factory value. K: kept by board_power_on.
+ */
+#define BOARD_AT_LENGTH 0 /* the record's size [123] */
+#define BOARD_LENGTH_SIZE 2
+#define BOARD_AT_VERSION 2 /* BOARD_RECORD_VERSION [1] */
+#define BOARD_AT_FLAGS 3   /* the BOARD_FLAG_ bits, others 0 [factory: sending] */
+#define BOARD_AT_TRIES 4   /* wrong codes since the last start [0 to 3, factory 0] */
+#define BOARD_AT_CODE 5    /* what command 19 compares with [any bytes, factory 55 53 43 31] K */
+#define BOARD_CODE_SIZE 4
+#define BOARD_AT_POWER 9 /* Classic power, signed [-20 to 12, factory 12] K */
+#define BOARD_POWER_SIZE 2
+#define BOARD_AT_STEP 11        /* LE power step [0 to 5, factory 0] K */
+#define BOARD_AT_MODE 12        /* 1 Classic [0 to 1, factory 1] K */
+#define BOARD_AT_ON_OFF 13      /* on/off state [0 to 2, factory 1] K */
+#define BOARD_AT_INPUT_TYPES 14 /* a byte each for channels 2 to 6 [0 to 1, factory 0] K */
+#define BOARD_INPUT_TYPES_SIZE 5
+#define BOARD_AT_OUTPUTS 19  /* output k is bit k - 1, k = 1 to 4, others 0 [factory 0] */
+#define BOARD_AT_INTERVAL 20 /* [0 or 4 to 59, factory 0] K */
+#define BOARD_AT_FILTER 21   /* filter word, bits 0 to 5, others 0 [factory 0] K */
+#define BOARD_FILTER_SIZE 4
+#define BOARD_AT_NAME_LENGTH 25 /* [0 to 15, factory 11] K */
+#define BOARD_AT_NAME 26        /* so many bytes up to 7F, zeros behind [factory GSV-6BT_dev] K */
+#define BOARD_NAME_SIZE 15
+#define BOARD_AT_MODEL 41 /* any bytes up to the first zero, zeros from there [factory empty] K */
+#define BOARD_MODEL_SIZE 15
+#define BOARD_AT_PENDING_LENGTH 56 /* [0 to 18, factory 0] */
+#define BOARD_AT_PENDING 57        /* so many bytes of an unfinished frame, zeros behind */
+#define BOARD_PENDING_SIZE 18
+#define BOARD_AT_PAIRS 75 /* greatest, smallest for channels 1 to 6, floats; zeros before a reading */
+#define BOARD_PAIR_SIZE 8
+#define BOARD_PAIRS_SIZE 48
+
+/* Bits of the flags: configuration mode open, unlocked, sending, a reading seen. */
+#define BOARD_FLAG_OPEN 1
+#define BOARD_FLAG_UNLOCKED 2
+#define BOARD_FLAG_SENDING 4
+#define BOARD_FLAG_READING 8
+
+/* The Classic power as an int; it is small enough for its low byte. */
+#define BOARD_POWER(record) (((record)[BOARD_AT_POWER + 1] ^ 0x80) - 0x80)
+
+/* 1 if output k (1 to 4) is on, else 0. */
+#define BOARD_OUTPUT(record, k) ((record)[BOARD_AT_OUTPUTS] >> ((k)-1) & 1)
+
+/* The input type of a channel (2 to 6). */
+#define BOARD_INPUT_TYPE(record, channel) ((record)[BOARD_AT_INPUT_TYPES + (channel)-2])
+
+/* Where the greatest and the smallest value of a channel (1 to 6) start, 4 bytes each. */
+#define BOARD_AT_GREATEST(channel) (BOARD_AT_PAIRS + BOARD_PAIR_SIZE * ((channel)-1))
+#define BOARD_AT_SMALLEST(channel) (BOARD_AT_GREATEST(channel) + 4)
+
+/*
+ * The code. Every board fresh from board_factory has the code that the amplifier's manual prints. Copy the
+ * practice's own BOARD_CODE_SIZE bytes to BOARD_AT_CODE before delivery; no command changes them. Three wrong
+ * codes end the tries until board_power_on: whoever can switch the chair off and on has three more.
+ * Whoever can read the record or the store has the code.
+ *
+ * Storing. The fields marked K have to outlive a power failure: store the record when one of them changed,
+ * and before the replies are sent, so that nothing confirmed is lost. A store may be cut in the middle:
+ * keep two copies, each with a number and a checksum, and write them in turn (examples/store.c). If neither
+ * is whole, say so; a new board_factory would bring back the printed code.
+ *
+ * Threads. The archive keeps nothing between calls. Calls on different records may run at once, also in an
+ * interrupt; two calls on the same record, or with the same output, may not.
+ *
+ * The archive is x86-64 code for the System V calling convention (SSE2, position independent). It calls
+ * memcpy and memset and nothing else, takes buffers at any alignment, and was measured to use at most 400
+ * bytes of stack (docs/PERFORMANCE.md; reserve 1,024). Floats are compared in the processor's usual mode:
+ * a program linked with -ffast-math takes the tiniest values for zero, and pairs then differ from the proof.
+ *
+ * Another controller. The kit compiles for x86-64 alone. Elsewhere there are two ways, neither proved:
+ * compile second/second.c, the same board in plain C11 over the same record, which is compared with the
+ * archive on millions of calls; or translate crates/, and compare likewise (tests/c).
+ */
 
 #ifdef __cplusplus
 }
