@@ -1,0 +1,190 @@
+/* The places, sizes and helpers of board.h, held against what the archive changes in a record. */
+#include "board.h"
+
+#include <stdio.h>
+#include <string.h>
+
+/* Each field starts where the one before ends, and the last ends with the record. */
+#define FOLLOWS(at, before, size) _Static_assert((at) == (before) + (size), #at " follows " #before)
+FOLLOWS(BOARD_AT_LENGTH, 0, 0);
+FOLLOWS(BOARD_AT_VERSION, BOARD_AT_LENGTH, BOARD_LENGTH_SIZE);
+FOLLOWS(BOARD_AT_FLAGS, BOARD_AT_VERSION, 1);
+FOLLOWS(BOARD_AT_TRIES, BOARD_AT_FLAGS, 1);
+FOLLOWS(BOARD_AT_CODE, BOARD_AT_TRIES, 1);
+FOLLOWS(BOARD_AT_POWER, BOARD_AT_CODE, BOARD_CODE_SIZE);
+FOLLOWS(BOARD_AT_STEP, BOARD_AT_POWER, BOARD_POWER_SIZE);
+FOLLOWS(BOARD_AT_MODE, BOARD_AT_STEP, 1);
+FOLLOWS(BOARD_AT_ON_OFF, BOARD_AT_MODE, 1);
+FOLLOWS(BOARD_AT_INPUT_TYPES, BOARD_AT_ON_OFF, 1);
+FOLLOWS(BOARD_AT_OUTPUTS, BOARD_AT_INPUT_TYPES, BOARD_INPUT_TYPES_SIZE);
+FOLLOWS(BOARD_AT_INTERVAL, BOARD_AT_OUTPUTS, 1);
+FOLLOWS(BOARD_AT_FILTER, BOARD_AT_INTERVAL, 1);
+FOLLOWS(BOARD_AT_NAME_LENGTH, BOARD_AT_FILTER, BOARD_FILTER_SIZE);
+FOLLOWS(BOARD_AT_NAME, BOARD_AT_NAME_LENGTH, 1);
+FOLLOWS(BOARD_AT_MODEL, BOARD_AT_NAME, BOARD_NAME_SIZE);
+FOLLOWS(BOARD_AT_PENDING_LENGTH, BOARD_AT_MODEL, BOARD_MODEL_SIZE);
+FOLLOWS(BOARD_AT_PENDING, BOARD_AT_PENDING_LENGTH, 1);
+FOLLOWS(BOARD_AT_PAIRS, BOARD_AT_PENDING, BOARD_PENDING_SIZE);
+FOLLOWS(BOARD_RECORD_SIZE, BOARD_AT_PAIRS, BOARD_PAIRS_SIZE);
+_Static_assert(BOARD_PAIRS_SIZE == 6 * BOARD_PAIR_SIZE, "six pairs");
+_Static_assert(BOARD_PENDING_SIZE == BOARD_PENDING_MOST, "room for the most bytes pending");
+_Static_assert(BOARD_ROOM_MOST == 19532, "the room of document 01");
+
+enum { NOTHING, OPENED, UNLOCKED };
+
+/* Bytes that a field holds afterwards. */
+struct field {
+    size_t at, size;
+    const char *bytes;
+};
+
+/* The input, sent to a new record that was opened or unlocked before, changes these fields and no others. */
+static const struct change {
+    int before;
+    size_t len;
+    const char *input;
+    struct field fields[2];
+} changes[] = {
+    {NOTHING, 4, "\xAA\xA0\xE0\x85", {{BOARD_AT_FLAGS, 1, "\x05"}}},
+    {NOTHING, 4, "\xAA\x90\x23\x85", {{BOARD_AT_FLAGS, 1, "\x00"}}},
+    {NOTHING, 8, "\xAA\x94\x19USC1\x85", {{BOARD_AT_FLAGS, 1, "\x06"}}},
+    {NOTHING, 8, "\xAA\x94\x19USC2\x85", {{BOARD_AT_TRIES, 1, "\x01"}}},
+    {OPENED, 6, "\xAA\xA2\xE3\xFF\xEC\x85", {{BOARD_AT_POWER, BOARD_POWER_SIZE, "\xFF\xEC"}}},
+    {OPENED, 5, "\xAA\xA1\xE5\x05\x85", {{BOARD_AT_STEP, 1, "\x05"}}},
+    {OPENED, 5, "\xAA\xA1\xE7\x00\x85", {{BOARD_AT_MODE, 1, "\x00"}}},
+    {OPENED, 5, "\xAA\xA1\xEE\x02\x85", {{BOARD_AT_ON_OFF, 1, "\x02"}}},
+    {OPENED, 6, "\xAA\xA2\xEB\x02\x01\x85", {{BOARD_AT_INPUT_TYPES, 5, "\x01\x00\x00\x00\x00"}}},
+    {OPENED, 6, "\xAA\xA2\xEB\x06\x01\x85", {{BOARD_AT_INPUT_TYPES, 5, "\x00\x00\x00\x00\x01"}}},
+    {OPENED, 6, "\xAA\xA2\xF1\x04\x01\x85", {{BOARD_AT_OUTPUTS, 1, "\x08"}}},
+    {OPENED, 5, "\xAA\xA1\xF2\x3B\x85", {{BOARD_AT_INTERVAL, 1, "\x3B"}}},
+    {NOTHING,
+     8,
+     "\xAA\x94\x52\x00\x00\x00\x3F\x85",
+     {{BOARD_AT_FILTER, BOARD_FILTER_SIZE, "\x00\x00\x00\x3F"}}},
+    {OPENED,
+     19,
+     "\xAA\xAF\xE9"
+     "fifteen letters\x85",
+     {{BOARD_AT_NAME_LENGTH, 1, "\x0F"}, {BOARD_AT_NAME, BOARD_NAME_SIZE, "fifteen letters"}}},
+    {UNLOCKED,
+     19,
+     "\xAA\x9F\x1C"
+     "fifteen letters\x85",
+     {{BOARD_AT_MODEL, BOARD_MODEL_SIZE, "fifteen letters"}}},
+    {NOTHING,
+     18,
+     "\xAA\x9F\x1C"
+     "fifteen letters",
+     {{BOARD_AT_PENDING_LENGTH, 1, "\x12"},
+      {BOARD_AT_PENDING, BOARD_PENDING_SIZE,
+       "\xAA\x9F\x1C"
+       "fifteen letters"}}},
+};
+
+static unsigned passed, failed;
+
+static void check(const char *what, unsigned row, int good) {
+    if (good)
+        passed++;
+    else
+        failed++;
+    if (!good)
+        printf("wrong: %s %u\n", what, row);
+}
+
+static void send(uint8_t *record, const char *input, size_t len) {
+    uint8_t output[BOARD_ROOM(BOARD_PENDING_MOST, 32)];
+    board_bytes(record, BOARD_RECORD_SIZE, (const uint8_t *)input, len, output, sizeof output);
+}
+
+static void new_record(uint8_t *record, int before) {
+    board_factory(record, BOARD_RECORD_SIZE);
+    if (before == OPENED)
+        send(record, "\xAA\xA0\xE0\x85", 4);
+    if (before == UNLOCKED)
+        send(record, "\xAA\x94\x19USC1\x85", 8);
+}
+
+static void check_change(const struct change *change, unsigned row) {
+    uint8_t record[BOARD_RECORD_SIZE], wanted[BOARD_RECORD_SIZE];
+    new_record(record, change->before);
+    memcpy(wanted, record, sizeof wanted);
+    for (size_t i = 0; i < 2 && change->fields[i].size > 0; i++)
+        memcpy(wanted + change->fields[i].at, change->fields[i].bytes, change->fields[i].size);
+    send(record, change->input, change->len);
+    check("change", row, memcmp(record, wanted, sizeof wanted) == 0);
+}
+
+/* Length, version and code are changed by no command. */
+static void check_fixed(void) {
+    uint8_t record[BOARD_RECORD_SIZE];
+    new_record(record, NOTHING);
+    check("length", 0, record[BOARD_AT_LENGTH] == 0 && record[BOARD_AT_LENGTH + 1] == BOARD_RECORD_SIZE);
+    check("version", 0, record[BOARD_AT_VERSION] == BOARD_RECORD_VERSION);
+    memcpy(record + BOARD_AT_CODE, "\x00\xFF\x85\xAA", BOARD_CODE_SIZE);
+    send(record, "\xAA\x94\x19\x00\xFF\x85\xAA\x85", 8);
+    check("own code", 0, record[BOARD_AT_FLAGS] == (BOARD_FLAG_SENDING | BOARD_FLAG_UNLOCKED));
+}
+
+/* Channel c measures c, then -c; a value is 4 bytes, its sign the first bit. */
+static void check_pairs(void) {
+    static const uint8_t values[6][2] = {{0x3F, 0x80}, {0x40, 0x00}, {0x40, 0x40},
+                                         {0x40, 0x80}, {0x40, 0xA0}, {0x40, 0xC0}};
+    uint8_t record[BOARD_RECORD_SIZE], sample[BOARD_SAMPLE_SIZE] = {0}, output[BOARD_FRAME_SIZE];
+    new_record(record, NOTHING);
+    for (unsigned sign = 0; sign <= 0x80; sign += 0x80) {
+        for (unsigned i = 0; i < 6; i++) {
+            sample[4 * i] = (uint8_t)(values[i][0] | sign);
+            sample[4 * i + 1] = values[i][1];
+        }
+        board_samples(record, sizeof record, sample, sizeof sample, output, sizeof output);
+    }
+    check("reading flag", 0, record[BOARD_AT_FLAGS] == (BOARD_FLAG_SENDING | BOARD_FLAG_READING));
+    for (unsigned i = 0; i < 6; i++) {
+        const uint8_t greatest[] = {values[i][0], values[i][1], 0, 0};
+        check("greatest", i + 1, memcmp(record + BOARD_AT_GREATEST(i + 1), greatest, 4) == 0);
+        check("smallest", i + 1, memcmp(record + BOARD_AT_SMALLEST(i + 1), sample + 4 * i, 4) == 0);
+    }
+}
+
+static void check_helpers(void) {
+    uint8_t record[BOARD_RECORD_SIZE];
+    new_record(record, OPENED);
+    for (int power = -20; power <= 12; power++) {
+        const char frame[] = {'\xAA', '\xA2', '\xE3', power < 0 ? '\xFF' : '\0', (char)power, '\x85'};
+        send(record, frame, sizeof frame);
+        check("power", (unsigned)(power + 20), BOARD_POWER(record) == power);
+    }
+    for (char k = 1; k <= 4; k++) {
+        const char on[] = {'\xAA', '\xA2', '\xF1', k, 1, '\x85'},
+                   off[] = {'\xAA', '\xA2', '\xF1', k, 0, '\x85'};
+        send(record, on, sizeof on);
+        for (int other = 1; other <= 4; other++)
+            check("output", (unsigned)other, BOARD_OUTPUT(record, other) == (other == k));
+        send(record, off, sizeof off);
+    }
+    for (char channel = 2; channel <= 6; channel++) {
+        const char frame[] = {'\xAA', '\xA2', '\xEB', channel, 1, '\x85'};
+        check("input type", (unsigned)channel, BOARD_INPUT_TYPE(record, channel) == 0);
+        send(record, frame, sizeof frame);
+        check("input type", (unsigned)channel, BOARD_INPUT_TYPE(record, channel) == 1);
+    }
+}
+
+static void check_version(void) {
+    char version[32];
+    snprintf(version, sizeof version, "%d.%d.%d", BOARD_VERSION_MAJOR, BOARD_VERSION_MINOR,
+             BOARD_VERSION_PATCH);
+    check("version text", 0, strcmp(version, BOARD_VERSION) == 0);
+}
+
+int main(void) {
+    for (unsigned i = 0; i < sizeof changes / sizeof *changes; i++)
+        check_change(&changes[i], i);
+    check_fixed();
+    check_pairs();
+    check_helpers();
+    check_version();
+    printf("places: %u passed, %u failed\n", passed, failed);
+    return failed > 0;
+}
