@@ -25,7 +25,7 @@ extern "C" {
  * If one of these is broken, anything may happen. The bytes themselves may be any.
  */
 
-/* This header's version. The package files (pkgconfig/, cmake/) ask for it by the same number. */
+/* This header's version; the packages in pkgconfig/ and cmake/ have the same. */
 #define BOARD_VERSION_MAJOR 1
 #define BOARD_VERSION_MINOR 0
 #define BOARD_VERSION_PATCH 0
