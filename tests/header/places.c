@@ -1,4 +1,4 @@
-/* The places, sizes and helpers of board.h, held against what the archive changes in a record. */
+/* What board.h says of places, sizes, helpers and alignment, held against what the archive does. */
 #include "board.h"
 
 #include <stdio.h>
@@ -171,6 +171,32 @@ static void check_helpers(void) {
     }
 }
 
+/* All inputs and a sample with every buffer so far behind an aligned address; 1 if all calls are done. */
+static int session_at(size_t shift, uint8_t *left) {
+    static _Alignas(16) uint8_t records[16 + BOARD_RECORD_SIZE], inputs[16 + 32], outputs[16 + 256];
+    uint8_t *record = records + shift, *input = inputs + shift, *output = outputs + shift;
+    int done = board_factory(record, BOARD_RECORD_SIZE).result == BOARD_DONE;
+    for (size_t i = 0; i < sizeof changes / sizeof *changes; i++) {
+        memcpy(input, changes[i].input, changes[i].len);
+        done &=
+            board_bytes(record, BOARD_RECORD_SIZE, input, changes[i].len, output, 256).result == BOARD_DONE;
+    }
+    memset(input, 0x40, BOARD_SAMPLE_SIZE);
+    done &=
+        board_samples(record, BOARD_RECORD_SIZE, input, BOARD_SAMPLE_SIZE, output, 256).result == BOARD_DONE;
+    memcpy(left, record, BOARD_RECORD_SIZE);
+    memcpy(left + BOARD_RECORD_SIZE, output, BOARD_FRAME_SIZE);
+    done &= board_power_on(record, BOARD_RECORD_SIZE).result == BOARD_DONE;
+    return done;
+}
+
+static void check_alignment(void) {
+    uint8_t aligned[BOARD_RECORD_SIZE + BOARD_FRAME_SIZE], shifted[sizeof aligned];
+    check("aligned", 0, session_at(0, aligned));
+    for (unsigned shift = 1; shift < 16; shift++)
+        check("shifted", shift, session_at(shift, shifted) && memcmp(aligned, shifted, sizeof aligned) == 0);
+}
+
 static void check_version(void) {
     char version[32];
     snprintf(version, sizeof version, "%d.%d.%d", BOARD_VERSION_MAJOR, BOARD_VERSION_MINOR,
@@ -184,6 +210,7 @@ int main(void) {
     check_fixed();
     check_pairs();
     check_helpers();
+    check_alignment();
     check_version();
     printf("places: %u passed, %u failed\n", passed, failed);
     return failed > 0;
