@@ -29,6 +29,7 @@ FOLLOWS(BOARD_RECORD_SIZE, BOARD_AT_PAIRS, BOARD_PAIRS_SIZE);
 _Static_assert(BOARD_PAIRS_SIZE == 6 * BOARD_PAIR_SIZE, "six pairs");
 _Static_assert(BOARD_PENDING_SIZE == BOARD_PENDING_MOST, "room for the most bytes pending");
 _Static_assert(BOARD_ROOM_MOST == 19532, "the room of document 01");
+_Static_assert((BOARD_FLAG_OPEN | BOARD_FLAG_SENDING) == 5, "as E0 leaves them in a new record");
 
 enum { NOTHING, OPENED, UNLOCKED };
 
