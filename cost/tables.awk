@@ -25,8 +25,8 @@ $1 == "stack" {
     printf "| %s | %d | %d |\n", $2, $3, $4
 }
 
-$1 == "code" {
-    begin("| bytes of code | proved | second |")
+$1 == "bytes" {
+    begin("| bytes | proved | second |")
     printf "| %s | %d | %d |\n", $2, $3, $4
 }
 
