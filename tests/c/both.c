@@ -144,6 +144,7 @@ struct board_answer both(const struct given *given) {
         show_case(given);
         for (unsigned i = 0; i < PROGRAMS; i++)
             show_left(&programs[i], &lents[i], given);
+        tally_printed();
     }
     if (given->record_len > 0)
         memcpy(given->record, second->record + GUARD, given->record_len);

@@ -6,8 +6,8 @@
 
 #include <stdbool.h>
 
-/* The largest buffers that a case may lend. */
-enum { RECORD_ROOM = 256, INPUT_ROOM = 4200, OUTPUT_ROOM = 20000 };
+/* The largest buffers that a case may lend: lengths of more than 16 bits too. */
+enum { RECORD_ROOM = 66000, INPUT_ROOM = 66000, OUTPUT_ROOM = 66000 };
 
 /* What a call is given; the output is lent with a fixed filling. An empty buffer may be lent as null. */
 struct given {

@@ -90,6 +90,24 @@ static void every_code_text_and_filter(void) {
     every_byte_of(0, AMPLIFIER, 0x52, filter, sizeof filter);
 }
 
+/* Every code may be the record's, and then another is a wrong one, the factory's too. */
+static void every_kept_code(void) {
+    enum { CODES = 7 };
+    static const uint8_t codes[CODES][CODE_SIZE] = {
+        {0x55, 0x53, 0x43, 0x31}, {0x00, 0x00, 0x00, 0x00}, {0xFF, 0xFF, 0xFF, 0xFF},
+        {0x00, 0x00, 0x00, 0x01}, {0x55, 0x00, 0x43, 0x31}, {0x55, 0x00, 0x43, 0x32},
+        {0xAA, 0x94, 0x19, 0x85},
+    };
+    uint8_t record[RECORD_SIZE];
+    for (unsigned access = 0; access < ACCESS_STATES; access++) {
+        for (size_t k = 0; k < CODES * CODES; k++) {
+            take_start(record, access);
+            memcpy(record + AT_CODE, codes[k / CODES], CODE_SIZE);
+            both_frame(record, AMPLIFIER, 0x19, codes[k % CODES], CODE_SIZE);
+        }
+    }
+}
+
 void run_commands(const struct settings *settings) {
     struct draw draw = draw_from(settings->seed);
     draw_record(&draw, start, 0, true);
@@ -98,4 +116,5 @@ void run_commands(const struct settings *settings) {
     every_one_byte();
     every_two_bytes();
     every_code_text_and_filter();
+    every_kept_code();
 }

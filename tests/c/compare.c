@@ -13,12 +13,14 @@ static const struct part {
     void (*run)(const struct settings *settings);
     unsigned long least;
 } parts[] = {
-    {"tables", run_tables, 210},       {"commands", run_commands, 1192960}, {"limits", run_limits, 11137},
-    {"changes", run_changes, 1983786}, {"readings", run_readings, 57600},   {"streams", run_streams, 200000},
+    {"tables", run_tables, 210},      {"commands", run_commands, 1193744},
+    {"limits", run_limits, 11718},    {"changes", run_changes, 1983786},
+    {"hunts", run_hunts, 22026},      {"readings", run_readings, 140808},
+    {"streams", run_streams, 200000},
 };
 
 static int usage(void) {
-    printf("usage: compare [--seed N] [--calls N] TABLE...\n"
+    printf("usage: compare [--first] [--seed N] [--calls N] [--part NAME] TABLE...\n"
            "       compare --replay CALL RECORD INPUT ROOM\n"
            "RECORD and INPUT are hex, - if empty, null if a null pointer; ROOM is a number, - or null\n");
     return 2;
@@ -50,11 +52,6 @@ static bool read_room(const char *word, size_t *room, bool *null) {
     return number <= OUTPUT_ROOM;
 }
 
-static int finish(void) {
-    printf("%lu passed, %lu failed\n", tally.passed, tally.failed);
-    return tally.failed == 0 ? 0 : 1;
-}
-
 static int replay(char **words) {
     static uint8_t record[RECORD_ROOM], input[INPUT_ROOM];
     struct given given = {.record = record, .input = input};
@@ -66,7 +63,7 @@ static int replay(char **words) {
     const struct board_answer answer = both(&given);
     printf("second program: result %u, written %u, skipped %u\n", (unsigned)answer.result,
            (unsigned)answer.written, (unsigned)answer.skipped);
-    return finish();
+    return tally_end();
 }
 
 /* Fewer cases than the part promises are a failure. */
@@ -79,22 +76,44 @@ static void run_part(const struct part *part, const struct settings *settings) {
         printf("%s: fewer cases than the %lu stated\n", part->name, part->least);
 }
 
+/* False if there is no such option or its value is none. */
+static bool read_option(struct settings *settings, const char *option, const char *value) {
+    if (strcmp(option, "--seed") == 0)
+        return read_number(value, &settings->seed);
+    if (strcmp(option, "--calls") == 0)
+        return read_number(value, &settings->calls);
+    settings->part = value;
+    return strcmp(option, "--part") == 0;
+}
+
+/* At least one part has to have the name that is asked for. */
+static bool run_parts(const struct settings *settings) {
+    bool any = false;
+    for (size_t i = 0; i < sizeof parts / sizeof *parts; i++) {
+        if (settings->part == NULL || strcmp(settings->part, parts[i].name) == 0) {
+            run_part(&parts[i], settings);
+            any = true;
+        }
+    }
+    return any;
+}
+
 int main(int argc, char **argv) {
-    unsigned long seed = 121, calls = 500000;
+    struct settings settings = {.seed = 121, .calls = 500000};
     int at = 1;
     both_catch_crashes();
     if (argc == 6 && strcmp(argv[1], "--replay") == 0)
         return replay(argv + 2);
+    tally.first = argc > at && strcmp(argv[at], "--first") == 0;
+    at += tally.first ? 1 : 0;
     for (; at + 1 < argc && argv[at][0] == '-'; at += 2) {
-        unsigned long *number = strcmp(argv[at], "--seed") == 0 ? &seed : &calls;
-        if ((number == &calls && strcmp(argv[at], "--calls") != 0) || !read_number(argv[at + 1], number))
+        if (!read_option(&settings, argv[at], argv[at + 1]))
             return usage();
     }
     if (at == argc)
         return usage();
-    const struct settings settings = {seed, calls, argc - at, argv + at};
-    printf("seed %lu\n", seed);
-    for (size_t i = 0; i < sizeof parts / sizeof *parts; i++)
-        run_part(&parts[i], &settings);
-    return finish();
+    settings.tables = argc - at;
+    settings.table = argv + at;
+    printf("seed %lu\n", settings.seed);
+    return run_parts(&settings) ? tally_end() : usage();
 }

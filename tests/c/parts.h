@@ -2,12 +2,10 @@
 #ifndef PARTS_H
 #define PARTS_H
 
-#include <stdint.h>
-
-/* What the command line says. */
+/* What the command line says; without a part all are run. */
 struct settings {
-    uint64_t seed;
-    unsigned long calls;
+    unsigned long seed, calls;
+    const char *part;
     int tables;
     char **table;
 };
@@ -15,6 +13,7 @@ struct settings {
 void run_tables(const struct settings *settings);
 void run_commands(const struct settings *settings);
 void run_limits(const struct settings *settings);
+void run_hunts(const struct settings *settings);
 void run_changes(const struct settings *settings);
 void run_readings(const struct settings *settings);
 void run_streams(const struct settings *settings);

@@ -1,9 +1,11 @@
-/* Every pair of chosen float patterns through two readings. */
+/* Every pair of chosen float patterns through two readings, and kept in a record. */
 #include "both.h"
 #include "frames.h"
 #include "parts.h"
 #include "record.h"
+#include "tally.h"
 
+#include <stdio.h>
 #include <string.h>
 
 enum { PATTERNS = 40 };
@@ -42,6 +44,46 @@ static void two_readings(const uint8_t *start, size_t channel, uint32_t first, u
     both_frame(record, AMPLIFIER, 0x53, &number, 1);
 }
 
+/* A record that keeps the two patterns as the pair of one channel. */
+static void take_pair(uint8_t *record, size_t channel, uint32_t greatest, uint32_t smallest) {
+    memcpy(record, factory_record, RECORD_SIZE);
+    record[AT_FLAGS] |= FLAG_READING;
+    put_pattern(record + AT_PAIRS + 2 * FLOAT_SIZE * channel, greatest);
+    put_pattern(record + AT_PAIRS + 2 * FLOAT_SIZE * channel + FLOAT_SIZE, smallest);
+}
+
+/* The pair in each channel read back, and in one channel with every pattern as the next reading. */
+static void kept_pair(uint32_t greatest, uint32_t smallest, size_t channel) {
+    uint8_t record[RECORD_SIZE], sample[BOARD_SAMPLE_SIZE] = {0};
+    for (size_t i = 0; i < CHANNELS; i++) {
+        const uint8_t number = (uint8_t)(i + 1);
+        take_pair(record, i, greatest, smallest);
+        both_frame(record, AMPLIFIER, 0x53, &number, 1);
+        both_power_on(record);
+    }
+    for (size_t i = 0; i < PATTERNS; i++) {
+        take_pair(record, channel, greatest, smallest);
+        put_pattern(sample + channel * FLOAT_SIZE, patterns[i]);
+        both_samples(record, sample);
+    }
+}
+
+/* Zeros are equal in value, so each may be the greatest with each as the smallest. */
+static void zero_pairs(void) {
+    uint8_t record[RECORD_SIZE];
+    for (size_t pair = 0; pair < 4; pair++) {
+        take_pair(record, pair, patterns[pair / 2], patterns[pair % 2]);
+        if (tally_case(both_power_on(record).result == BOARD_DONE))
+            printf("a record with a pair of zeros is not well formed\n");
+    }
+}
+
+static void kept_pairs(void) {
+    for (size_t pair = 0; pair < PATTERNS * PATTERNS; pair++)
+        kept_pair(patterns[pair / PATTERNS], patterns[pair % PATTERNS], pair % CHANNELS);
+    zero_pairs();
+}
+
 void run_readings(const struct settings *settings) {
     struct draw draw = draw_from(settings->seed);
     uint8_t start[RECORD_SIZE];
@@ -53,4 +95,5 @@ void run_readings(const struct settings *settings) {
                 two_readings(start, channel, patterns[pair / PATTERNS], patterns[pair % PATTERNS]);
         }
     }
+    kept_pairs();
 }

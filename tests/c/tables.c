@@ -114,12 +114,13 @@ static void run_row(struct place place, const struct row *row, const struct prog
                       memcmp(record, expected, RECORD_SIZE) == 0;
     if (!tally_case(good))
         return;
-    printf("%s:%lu: %s: result %u, skipped %u\n", place.file, place.line, program->name,
+    printf("differs: %s:%lu: %s: result %u, skipped %u\n", place.file, place.line, program->name,
            (unsigned)answer.result, (unsigned)answer.skipped);
     show("expected output", row->output, row->output_len);
     show("output         ", output, answer.written <= sizeof output ? answer.written : 0);
     show("expected record", expected, RECORD_SIZE);
     show("record         ", record, RECORD_SIZE);
+    tally_printed();
 }
 
 static void run_table(const char *name) {

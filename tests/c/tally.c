@@ -1,5 +1,8 @@
 #include "tally.h"
 
+#include <stdio.h>
+#include <stdlib.h>
+
 struct tally tally;
 
 /* One fault mostly shows in very many cases; the first tell enough. */
@@ -11,4 +14,14 @@ bool tally_case(bool good) {
     else
         tally.failed++;
     return !good && tally.failed <= SHOWN;
+}
+
+void tally_printed(void) {
+    if (tally.first)
+        exit(tally_end());
+}
+
+int tally_end(void) {
+    printf("%lu passed, %lu failed\n", tally.passed, tally.failed);
+    return tally.failed == 0 ? 0 : 1;
 }
