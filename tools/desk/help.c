@@ -1,0 +1,33 @@
+#include "help.h"
+
+#include <stdio.h>
+
+/* The first digits of the checksum of the library's sources, given by tools/desk/build. */
+#ifndef BOARD_SOURCES
+#define BOARD_SOURCES "unknown"
+#endif
+
+static const char help[] =
+    "desk: what a board answers, in words\n"
+    "\n"
+    "  ./desk [OPTION..]         lines from the terminal or from standard input\n"
+    "  ./desk [OPTION..] LINE    one line\n"
+    "\n"
+    "A line is one of these; # starts a remark:\n"
+    "  AA 90 23 85               bytes for the board in hex; blanks, commas and 0x may stand between\n"
+    "  factory                   a new record\n"
+    "  power-on                  what the board does when it is switched on\n"
+    "  sample A B C D E F        a reading of the six channels in decimal numbers\n"
+    "  show                      the record in words; 'show code' with the code\n"
+    "  help, quit\n"
+    "\n"
+    "  --record FILE             start from this record and keep it there; a new one is from factory\n"
+    "  --hex                     only the bytes of replies, one reply a line\n"
+    "  --commands                the command tables, as in docs/COMMANDS.md\n"
+    "  --help, --version\n"
+    "\n"
+    "Status: 0 done, 1 a call or a record was refused, 2 bad usage or input, 3 it could not be built.\n";
+
+void print_help(void) { fputs(help, stdout); }
+
+void print_version(void) { printf("desk 1, board %s\n", BOARD_SOURCES); }

@@ -1,0 +1,131 @@
+#define _POSIX_C_SOURCE 200809L
+#include "lines.h"
+
+#include "help.h"
+#include "line.h"
+#include "show.h"
+
+#include <stdio.h>
+#include <stdlib.h>
+#include <string.h>
+#include <unistd.h>
+
+enum { CHANNELS = 6 };
+
+/* Beside the ways to end: the line was quit. */
+enum { LINE_QUIT = -1 };
+
+struct line {
+    const char *text;
+    size_t len;
+};
+
+static int take_bytes(struct session *session, struct line line, struct line_fault *fault) {
+    size_t count;
+    uint8_t *bytes = malloc(line.len / 2 + 1);
+    if (bytes == NULL) {
+        fprintf(stderr, "desk: no memory for a line of %zu characters\n", line.len);
+        return EXIT_USAGE;
+    }
+    const bool good = line_bytes(line.text, line.len, bytes, &count, fault);
+    const int status = good ? session_bytes(session, bytes, count) : EXIT_USAGE;
+    free(bytes);
+    return status;
+}
+
+static int take_sample(struct session *session, struct line line, size_t at, struct line_fault *fault) {
+    float sample[CHANNELS];
+    if (!line_numbers(line.text, line.len, at, sample, CHANNELS, fault))
+        return EXIT_USAGE;
+    return session_sample(session, sample);
+}
+
+static int take_show(const struct session *session, struct line line, size_t at, struct line_fault *fault) {
+    size_t behind;
+    const bool code = line_says(line.text, line.len, at, "code", &behind);
+    if (!line_ends(line.text, line.len, code ? behind : at, fault))
+        return EXIT_USAGE;
+    show_record(session->record, code);
+    return EXIT_DONE;
+}
+
+static int take_word(struct session *session, enum word word, struct line line, size_t at,
+                     struct line_fault *fault) {
+    if (word == WORD_SAMPLE)
+        return take_sample(session, line, at, fault);
+    if (word == WORD_SHOW)
+        return take_show(session, line, at, fault);
+    if (!line_ends(line.text, line.len, at, fault))
+        return EXIT_USAGE;
+    if (word == WORD_FACTORY)
+        return session_factory(session);
+    if (word == WORD_POWER_ON)
+        return session_power_on(session);
+    if (word == WORD_QUIT)
+        return LINE_QUIT;
+    print_help();
+    return EXIT_DONE;
+}
+
+/* The answers are out before the next line is asked for. */
+static int take_line(struct session *session, struct line line, size_t number) {
+    struct line_fault fault = {0, ""};
+    size_t behind;
+    const enum word word = line_word(line.text, line.len, &behind);
+    const int status = word == WORD_NONE ? take_bytes(session, line, &fault)
+                                         : take_word(session, word, line, behind, &fault);
+    fflush(stdout);
+    if (fault.place > 0)
+        fprintf(stderr, "desk: line %zu, place %zu: %s\n", number, fault.place, fault.words);
+    return status;
+}
+
+/* A refused call is remembered; a bad line ends it all, but not for somebody who sits there and can type it
+ * anew. */
+static bool goes_on(int now, bool terminal, int *status) {
+    if (now == LINE_QUIT)
+        return false;
+    if (now == EXIT_REFUSED)
+        *status = EXIT_REFUSED;
+    if (now != EXIT_USAGE || terminal)
+        return true;
+    *status = EXIT_USAGE;
+    return false;
+}
+
+/* The prompt stays out of answers that go to a file. */
+static void ask(bool terminal) {
+    FILE *to = isatty(STDOUT_FILENO) == 1 ? stdout : stderr;
+    if (terminal)
+        fputs("desk> ", to);
+    fflush(to);
+}
+
+int take_input(struct session *session) {
+    const bool terminal = isatty(STDIN_FILENO) == 1;
+    char *text = NULL;
+    size_t room = 0;
+    ssize_t len;
+    int status = EXIT_DONE;
+    for (size_t number = 1;; number++) {
+        ask(terminal);
+        len = getline(&text, &room, stdin);
+        if (len < 0 ||
+            !goes_on(take_line(session, (struct line){text, (size_t)len}, number), terminal, &status))
+            break;
+    }
+    if (terminal && len < 0)
+        puts("");
+    free(text);
+    return status;
+}
+
+int take_text(struct session *session, const char *text) {
+    int status = EXIT_DONE;
+    for (size_t number = 1;; number++) {
+        const struct line line = {text, strcspn(text, "\n")};
+        if (!goes_on(take_line(session, line, number), false, &status) || text[line.len] == '\0')
+            return status;
+        text += line.len + 1;
+    }
+}

@@ -1,0 +1,7 @@
+/* The tables of docs/COMMANDS.md. */
+#ifndef PAGE_H
+#define PAGE_H
+
+void print_page(void);
+
+#endif

@@ -1,0 +1,26 @@
+/* Frames and replies in words. */
+#ifndef WORDS_H
+#define WORDS_H
+
+#include "judge.h"
+
+/* Enough for any of these. */
+enum { WORDS_MOST = 400 };
+
+/* What a whole frame asks. */
+void request_words(const uint8_t *frame, char *words);
+
+/* What its reply means; the records are those before and after the frame. */
+void reply_words(const uint8_t *before, const uint8_t *after, const uint8_t *frame, const uint8_t *reply,
+                 char *words);
+
+/* A frame's bytes; those of a code are dots. */
+void frame_hex(const uint8_t *frame, size_t len, char *hex);
+
+/* Bytes with spaces between; three characters of room for each. */
+void hex_words(const uint8_t *bytes, size_t len, char *hex);
+
+/* The result of a refused call. */
+const char *result_words(unsigned result);
+
+#endif
