@@ -37,7 +37,7 @@ const struct command commands[] = {
     {BT121, 0xEE, "SetGSVonoff", OPEN, "set on/off state", " to #", {&field_on_off}, NONE},
     {BT121, 0xEF, "system_reset_factory_settings", NOT_BUILT, "give the radio its first settings", "", NONE, NONE},
     {BT121, 0xF0, "GetInputType", OPEN, "read input type", " of channel #", {&field_input}, {&field_type}},
-    {BT121, 0xF1, "SetDigitalOnOff", OPEN, "switch an output", ": output # to #", {&field_output, &field_switch}, NONE},
+    {BT121, 0xF1, "SetDigitalOnOff", OPEN, "switch output", " # to #", {&field_output, &field_switch}, NONE},
     {BT121, 0xF2, "SetLoggerAlarmInterval", OPEN, "set interval", " to #", {&field_interval}, NONE},
     {BT121, 0xF3, "GetLoggerAlarmInterval", OPEN, "read interval", "", NONE, {&field_interval}},
 };

@@ -95,11 +95,12 @@ static size_t zeros_end(const uint8_t *record, size_t at, size_t end) {
     return at;
 }
 
-static bool behind_fault(const uint8_t *record, size_t at, size_t end, const char *name, char *words) {
+static bool behind_fault(const uint8_t *record, size_t at, size_t end, const char *of, char *words) {
     const size_t found = zeros_end(record, at, end);
     if (found == end)
         return false;
-    return SAY("the %s: byte %zu behind it is %02X; 00 is due", name, found, record[found]);
+    return SAY("%s: byte %zu behind %s is %02X; 00 is due", of, found, end == BOARD_AT_PAIRS ? "them" : "it",
+               record[found]);
 }
 
 static bool name_fault(const uint8_t *record, char *words) {
@@ -111,14 +112,14 @@ static bool name_fault(const uint8_t *record, char *words) {
         if (!field_allows(&field_name, record[at]))
             return SAY("the name: byte %zu in it is %02X; 00 to 7F are allowed", at, record[at]);
     }
-    return behind_fault(record, BOARD_AT_NAME + len, BOARD_AT_NAME + BOARD_NAME_SIZE, "name", words);
+    return behind_fault(record, BOARD_AT_NAME + len, BOARD_AT_NAME + BOARD_NAME_SIZE, "the name", words);
 }
 
 static bool model_fault(const uint8_t *record, char *words) {
     size_t at = BOARD_AT_MODEL;
     while (at < BOARD_AT_MODEL + BOARD_MODEL_SIZE && record[at] != 0)
         at++;
-    return behind_fault(record, at, BOARD_AT_MODEL + BOARD_MODEL_SIZE, "model", words);
+    return behind_fault(record, at, BOARD_AT_MODEL + BOARD_MODEL_SIZE, "the model", words);
 }
 
 static bool pending_fault(const uint8_t *record, char *words) {
@@ -133,7 +134,7 @@ static bool pending_fault(const uint8_t *record, char *words) {
             return SAY("the pending bytes (from byte %d on) are none that wait for more", BOARD_AT_PENDING);
     }
     return behind_fault(record, BOARD_AT_PENDING + len, BOARD_AT_PENDING + BOARD_PENDING_SIZE,
-                        "pending bytes", words);
+                        "the pending bytes", words);
 }
 
 static bool pair_fault(const uint8_t *record, size_t pair, char *words) {

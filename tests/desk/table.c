@@ -1,0 +1,135 @@
+/* The desk's words are held to the board: what its tables say of a frame or a record, the library says too.
+ */
+#include "board.h"
+#include "fault.h"
+#include "judge.h"
+
+#include <stdio.h>
+#include <string.h>
+
+enum { BYTE_VALUES = 256, ACCESS_STATES = 16, FILLINGS = 4 };
+
+static unsigned long cases, failures;
+
+static void tally(bool good, const char *what, unsigned first, unsigned second) {
+    cases++;
+    if (good)
+        return;
+    if (failures++ < 10)
+        printf("the desk and the library differ: %s %02X %02X\n", what, first, second);
+}
+
+static void start_record(uint8_t *record) {
+    static const uint8_t sample[BOARD_SAMPLE_SIZE] = {0};
+    uint8_t output[BOARD_FRAME_SIZE];
+    board_factory(record, BOARD_RECORD_SIZE);
+    board_samples(record, BOARD_RECORD_SIZE, sample, sizeof sample, output, sizeof output);
+}
+
+/* Bits 0 and 1: open, unlocked; bits 2 and 3: the tries. */
+static void one_frame(unsigned access, unsigned head, unsigned number, const uint8_t *parameters) {
+    uint8_t record[BOARD_RECORD_SIZE], frame[FRAME_MOST], reply[BOARD_ROOM(0, FRAME_MOST)];
+    const size_t count = COUNT_OF(head);
+    start_record(record);
+    record[BOARD_AT_FLAGS] |= (uint8_t)(access & (BOARD_FLAG_OPEN | BOARD_FLAG_UNLOCKED));
+    record[BOARD_AT_TRIES] = (uint8_t)(access >> 2);
+    frame[0] = FRAME_START;
+    frame[AT_HEAD] = (uint8_t)head;
+    frame[AT_NUMBER] = (uint8_t)number;
+    memcpy(frame + AT_PARAMETERS, parameters, count);
+    frame[AT_PARAMETERS + count] = FRAME_END;
+    const enum status told = judge(record, frame).status;
+    const struct board_answer answer =
+        board_bytes(record, sizeof record, frame, FRAME_AROUND + count, reply, sizeof reply);
+    tally(answer.result == BOARD_DONE && answer.written >= FRAME_AROUND && reply[AT_STATUS] == told,
+          "a frame with head and number", head, number);
+}
+
+/* Every number, count and state, with the code, with small values, with zeros and with ones. */
+static void every_number(void) {
+    static const uint8_t fillings[FILLINGS][PARAMETERS_MOST] = {
+        {0x55, 0x53, 0x43, 0x31}, {2, 1}, {0}, {0xFF, 0xFF, 0xFF, 0xFF}};
+    for (unsigned head = AMPLIFIER; head <= (BT121 | PARAMETERS_MOST); head++) {
+        for (unsigned number = 0; number < BYTE_VALUES; number++) {
+            for (unsigned k = 0; k < ACCESS_STATES * FILLINGS; k++)
+                one_frame(k / FILLINGS, head, number, fillings[k % FILLINGS]);
+        }
+    }
+}
+
+/* The state in which a command's ranges are looked at. */
+static unsigned let_through(const struct command *command) {
+    return command->kind == BT121 ? BOARD_FLAG_OPEN : BOARD_FLAG_UNLOCKED;
+}
+
+/* Every value of one byte, and every pair of values where two are taken. */
+static void every_value(void) {
+    for (const struct command *command = commands; command < commands + commands_count; command++) {
+        const unsigned pairs = command_most(command) == 2 ? BYTE_VALUES : 1;
+        for (unsigned k = 0; k < BYTE_VALUES * pairs; k++) {
+            const uint8_t values[PARAMETERS_MOST] = {(uint8_t)k, (uint8_t)(k / BYTE_VALUES)};
+            one_frame(let_through(command), command->kind + (pairs == 1 ? 1U : 2U), command->number, values);
+        }
+    }
+}
+
+/* Each byte of four and of fifteen with each value, the others zero: the filter word and the name. */
+static void every_place(void) {
+    for (const struct command *command = commands; command < commands + commands_count; command++) {
+        for (unsigned k = 0; k < PARAMETERS_MOST * BYTE_VALUES; k++) {
+            uint8_t bytes[PARAMETERS_MOST] = {0};
+            bytes[k / BYTE_VALUES] = (uint8_t)k;
+            one_frame(let_through(command), command->kind + 4U, command->number, bytes);
+            one_frame(let_through(command), command->kind + (unsigned)PARAMETERS_MOST, command->number,
+                      bytes);
+        }
+    }
+}
+
+static void one_record(const uint8_t *record, size_t len, unsigned at) {
+    uint8_t copy[BOARD_RECORD_SIZE + 1], output[BOARD_ROOM(BOARD_PENDING_MOST, 0)];
+    char words[WORDS_MOST];
+    memcpy(copy, record, len);
+    const struct board_answer answer = board_bytes(copy, len, NULL, 0, output, sizeof output);
+    tally((answer.result == BOARD_BAD_RECORD) == record_fault(record, len, words),
+          "a record changed at this place to", at, at < len ? record[at] : 0);
+}
+
+/* Each byte of a record with each value. */
+static void every_byte(const uint8_t *record) {
+    for (unsigned at = 0; at < BOARD_RECORD_SIZE; at++) {
+        for (unsigned value = 0; value < BYTE_VALUES; value++) {
+            uint8_t changed[BOARD_RECORD_SIZE];
+            memcpy(changed, record, sizeof changed);
+            changed[at] = (uint8_t)value;
+            one_record(changed, sizeof changed, at);
+        }
+    }
+}
+
+/* With and without a reading, and with every number of bytes waiting behind each kind of head. */
+static void every_record(void) {
+    uint8_t record[BOARD_RECORD_SIZE], output[BOARD_ROOM_MOST];
+    const uint8_t longest[] = {
+        FRAME_START, BT121 | PARAMETERS_MOST, 1, 2, 3, 4, 5, 6, 7, 8, 9, 10, 11, 12, 13, 14, 15, 16};
+    for (size_t waiting = 0; waiting <= BOARD_PENDING_MOST; waiting++) {
+        board_factory(record, sizeof record);
+        board_bytes(record, sizeof record, longest, waiting, output, sizeof output);
+        every_byte(record);
+        start_record(record);
+        board_bytes(record, sizeof record, longest, waiting, output, sizeof output);
+        every_byte(record);
+    }
+    const uint8_t any[BOARD_RECORD_SIZE + 1] = {0};
+    for (size_t len = 0; len <= sizeof any; len++)
+        one_record(any, len, 0);
+}
+
+int main(void) {
+    every_number();
+    every_value();
+    every_place();
+    every_record();
+    printf("desk tables: %lu cases, %lu failures\n", cases, failures);
+    return cases > 0 && failures == 0 ? 0 : 1;
+}
