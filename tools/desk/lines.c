@@ -5,6 +5,7 @@
 #include "line.h"
 #include "show.h"
 
+#include <errno.h>
 #include <stdio.h>
 #include <stdlib.h>
 #include <string.h>
@@ -117,7 +118,10 @@ int take_input(struct session *session) {
     if (terminal && len < 0)
         puts("");
     free(text);
-    return status;
+    if (ferror(stdin) == 0)
+        return status;
+    fprintf(stderr, "desk: the input cannot be read: %s\n", strerror(errno));
+    return EXIT_USAGE;
 }
 
 int take_text(struct session *session, const char *text) {

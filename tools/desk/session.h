@@ -3,37 +3,35 @@
 #define SESSION_H
 
 #include "board.h"
-
-#include <stdbool.h>
+#include "tell.h"
 
 /* How the program ends. */
 enum { EXIT_DONE = 0, EXIT_REFUSED = 1, EXIT_USAGE = 2 };
 
-/* Bytes skipped in a row, and the first head among them whose frame does not end in 85. */
-struct skipped {
-    size_t bytes, broken;
-    uint8_t head;
-};
-
 struct session {
     uint8_t record[BOARD_RECORD_SIZE];
     const char *path; /* NULL, or where the record is kept */
-    bool hex;         /* reply bytes only */
-    struct skipped skipped;
-    size_t skipped_in_all;
+    struct teller teller;
 };
 
-/* All of these return how the program would end. From the file, or from factory if there is none. */
+/* These return how the program would end. The start is from the file, or from factory if there is none. */
 int session_start(struct session *session, const char *path, bool hex);
-
 int session_factory(struct session *session);
 int session_power_on(struct session *session);
 int session_sample(struct session *session, const float *sample);
 
-/* The bytes of one line, however many. */
+/* The bytes of one line, however many; stream.c. */
 int session_bytes(struct session *session, const uint8_t *bytes, size_t len);
 
-/* In hex what was skipped and what waits is told once, on standard error. */
 void session_end(const struct session *session);
+
+/* A board call was refused. */
+int session_refused(const char *call, struct board_answer answer);
+
+/* The desk's hunt and tables are there for words; where the library says other things, no word is sure. */
+int session_disagrees(const char *about);
+
+/* Keeps the record before its changes are told, so that what was told is kept. */
+int session_keep(const struct session *session);
 
 #endif
