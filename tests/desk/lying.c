@@ -1,0 +1,62 @@
+/* Stands between the desk and the library, and between the desk and the disk. LIE names what goes wrong. */
+#define _POSIX_C_SOURCE 200809L
+#include "board.h"
+
+#include <errno.h>
+#include <stdbool.h>
+#include <stdio.h>
+#include <stdlib.h>
+#include <string.h>
+
+struct board_answer __real_board_bytes(uint8_t *record, size_t record_len, const uint8_t *input,
+                                       size_t input_len, uint8_t *output, size_t output_len);
+struct board_answer __wrap_board_bytes(uint8_t *record, size_t record_len, const uint8_t *input,
+                                       size_t input_len, uint8_t *output, size_t output_len);
+int __real_fsync(int file);
+int __wrap_fsync(int file);
+int __real_rename(const char *from, const char *to);
+int __wrap_rename(const char *from, const char *to);
+
+static bool lie(const char *name) {
+    const char *lie = getenv("LIE");
+    return lie != NULL && strcmp(lie, name) == 0;
+}
+
+/* The desk's own calls of one frame have nothing skipped, so these lies are about the board's call alone. */
+struct board_answer __wrap_board_bytes(uint8_t *record, size_t record_len, const uint8_t *input,
+                                       size_t input_len, uint8_t *output, size_t output_len) {
+    enum { STATUS = 2, REPLY = 4 };
+    struct board_answer answer = __real_board_bytes(record, record_len, input, input_len, output, output_len);
+    if (input_len == 0 && lie("bad record"))
+        answer.result = BOARD_BAD_RECORD;
+    if (answer.written > 0 && lie("every status"))
+        output[STATUS] = 0x40;
+    if (answer.skipped > 0 && lie("a status"))
+        output[STATUS] = 0x40;
+    if (answer.skipped > 0 && lie("a record"))
+        record[BOARD_AT_STEP] ^= 1;
+    if (answer.skipped > 0 && lie("a reply more")) {
+        memcpy(output + answer.written, output, REPLY);
+        answer.written += REPLY;
+    }
+    if (answer.skipped > 0 && lie("a reply less"))
+        answer.written = 0;
+    if (answer.skipped > 0 && lie("skipped"))
+        answer.skipped++;
+    return answer;
+}
+
+int __wrap_fsync(int file) {
+    if (lie("nothing"))
+        fputs("to the disk\n", stderr);
+    return __real_fsync(file);
+}
+
+int __wrap_rename(const char *from, const char *to) {
+    if (lie("nothing"))
+        fputs("to its name\n", stderr);
+    if (!lie("rename"))
+        return __real_rename(from, to);
+    errno = EIO;
+    return -1;
+}
