@@ -7,7 +7,7 @@
 #include <stdio.h>
 #include <string.h>
 
-enum { INPUTS_FROM = 2, OUTPUT_BITS = 0x0F, FLAG_BITS = 0x0F, VERSION = 1, PAIRS = 6, FLOAT_SIZE = 4 };
+enum { OUTPUT_BITS = 0x0F, FLAG_BITS = 0x0F, VERSION = 1 };
 
 #define SAY(...) (snprintf(words, WORDS_MOST, __VA_ARGS__), true)
 
@@ -155,7 +155,7 @@ static bool pair_fault(const uint8_t *record, size_t pair, char *words) {
 }
 
 static bool pairs_fault(const uint8_t *record, char *words) {
-    for (size_t pair = 0; pair < PAIRS; pair++) {
+    for (size_t pair = 0; pair < CHANNELS; pair++) {
         if (pair_fault(record, pair, words))
             return true;
     }

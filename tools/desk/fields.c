@@ -4,38 +4,30 @@
 #include <stdlib.h>
 #include <string.h>
 
-const struct field field_power = {"Classic power", FORM_SIGNED, 2, 2, -20, 12, false, NULL, NULL};
-const struct field field_step = {"LE power step",
-                                 FORM_SIGNED,
-                                 1,
-                                 1,
-                                 0,
-                                 5,
-                                 false,
-                                 NULL,
-                                 "0 7 dBm;1 2 dBm;2 -3 dBm;3 -8 dBm;4 -13 dBm;5 -18 dBm"};
-const struct field field_mode = {"mode", FORM_SIGNED, 1, 1, 0, 1, false, NULL, "0 LE;1 Classic"};
-const struct field field_on_off = {"on/off state",          FORM_SIGNED, 1, 1, 0, 2, false, NULL,
-                                   "0 off;1 on;2 automatic"};
-const struct field field_input = {"channel", FORM_SIGNED, 1, 1, 2, 6, false, NULL, NULL};
-const struct field field_type = {
-    "input type", FORM_SIGNED, 1, 1, 0, 1, false, NULL, "0 strain gauge;1 single-ended"};
-const struct field field_output = {"output", FORM_SIGNED, 1, 1, 1, 4, false, NULL, NULL};
-const struct field field_switch = {"switch", FORM_SIGNED, 1, 1, 0, 1, false, NULL, "0 off;1 on"};
-const struct field field_interval = {"interval", FORM_SIGNED,           1, 1, 4, 59, true,
-                                     " seconds", "0 counted in minutes"};
-const struct field field_filter = {"filter word", FORM_FILTER, 4, 4, 0, 0x3F, false, NULL, NULL};
-const struct field field_name = {"name", FORM_TEXT, 0, 15, 0, 0x7F, false, NULL, NULL};
-const struct field field_model = {"model", FORM_TEXT, 1, 15, 0, 0xFF, false, NULL, NULL};
-const struct field field_channel = {"channel", FORM_UNSIGNED, 1, 1, 1, 6, false, NULL, NULL};
-const struct field field_code = {"code", FORM_CODE, 4, 4, 0, 0xFF, false, NULL, NULL};
-const struct field field_model_read = {
-    "model", FORM_TEXT, 1, 15, 0, 0xFF, false, ", 00 behind it if it is shorter than 15", NULL};
-const struct field field_version = {"version", FORM_VERSION, 2, 2, 0, 0x7FFF, false, ", 00 14", NULL};
-const struct field field_lock = {"lock", FORM_UNSIGNED, 1, 1, 0, 8, false, NULL, "0 locked;8 unlocked"};
-const struct field field_indicator = {"00", FORM_UNSIGNED, 1, 1, 0, 0, false, NULL, NULL};
-const struct field field_greatest = {"greatest", FORM_FLOAT, 4, 4, 0, 0, false, NULL, NULL};
-const struct field field_smallest = {"smallest", FORM_FLOAT, 4, 4, 0, 0, false, NULL, NULL};
+/* clang-format off */
+const struct field field_power      = {"Classic power", FORM_SIGNED, 2, 2, -20, 12, false, NULL, NULL};
+const struct field field_step       = {"LE power step", FORM_SIGNED, 1, 1, 0, 5, false, NULL,
+                                       "0 7 dBm;1 2 dBm;2 -3 dBm;3 -8 dBm;4 -13 dBm;5 -18 dBm"};
+const struct field field_mode       = {"mode", FORM_SIGNED, 1, 1, 0, 1, false, NULL, "0 LE;1 Classic"};
+const struct field field_on_off     = {"on/off state", FORM_SIGNED, 1, 1, 0, 2, false, NULL, "0 off;1 on;2 automatic"};
+const struct field field_input      = {"channel", FORM_SIGNED, 1, 1, 2, 6, false, NULL, NULL};
+const struct field field_type       = {"input type", FORM_SIGNED, 1, 1, 0, 1, false, NULL, "0 strain gauge;1 single-ended"};
+const struct field field_output     = {"output", FORM_SIGNED, 1, 1, 1, 4, false, NULL, NULL};
+const struct field field_switch     = {"switch", FORM_SIGNED, 1, 1, 0, 1, false, NULL, "0 off;1 on"};
+const struct field field_interval   = {"interval", FORM_SIGNED, 1, 1, 4, 59, true, " seconds", "0 counted in minutes"};
+const struct field field_filter     = {"filter word", FORM_FILTER, 4, 4, 0, 0x3F, false, NULL, NULL};
+const struct field field_name       = {"name", FORM_TEXT, 0, 15, 0, 0x7F, false, NULL, NULL};
+const struct field field_model      = {"model", FORM_TEXT, 1, 15, 0, 0xFF, false, NULL, NULL};
+const struct field field_model_read = {"model", FORM_TEXT, 1, 15, 0, 0xFF, false,
+                                       ", 00 behind it if it is shorter than 15", NULL};
+const struct field field_channel    = {"channel", FORM_UNSIGNED, 1, 1, 1, 6, false, NULL, NULL};
+const struct field field_code       = {"code", FORM_CODE, 4, 4, 0, 0xFF, false, NULL, NULL};
+const struct field field_version    = {"version", FORM_VERSION, 2, 2, 0, 0x7FFF, false, ", 00 14", NULL};
+const struct field field_lock       = {"lock", FORM_UNSIGNED, 1, 1, 0, 8, false, NULL, "0 locked;8 unlocked"};
+const struct field field_indicator  = {"00", FORM_UNSIGNED, 1, 1, 0, 0, false, NULL, NULL};
+const struct field field_greatest   = {"greatest", FORM_FLOAT, 4, 4, 0, 0, false, NULL, NULL};
+const struct field field_smallest   = {"smallest", FORM_FLOAT, 4, 4, 0, 0, false, NULL, NULL};
+/* clang-format on */
 
 int64_t field_number(const struct field *field, const uint8_t *bytes, size_t len) {
     int64_t number = 0;
@@ -82,7 +74,6 @@ void quoted_words(const uint8_t *bytes, size_t len, char *words) {
 
 /* The four bytes, and the channels whose filter is on. */
 static void filter_words(const uint8_t *bytes, char *words) {
-    enum { CHANNELS = 6 };
     int found = 0;
     char *to = words + sprintf(words, "%02X %02X %02X %02X (on: ", bytes[0], bytes[1], bytes[2], bytes[3]);
     for (int bit = 0; bit < CHANNELS; bit++) {

@@ -6,6 +6,9 @@
 #include <stddef.h>
 #include <stdint.h>
 
+/* Input types are those of the channels from 2 on. */
+enum { CHANNELS = 6, INPUTS_FROM = 2, OUTPUTS = 4, FLOAT_SIZE = 4 };
+
 /* How the bytes of a field are read. */
 enum form { FORM_SIGNED, FORM_UNSIGNED, FORM_FILTER, FORM_TEXT, FORM_CODE, FORM_VERSION, FORM_FLOAT };
 

@@ -1,6 +1,7 @@
 #define _POSIX_C_SOURCE 200809L
 #include "lines.h"
 
+#include "fields.h"
 #include "help.h"
 #include "line.h"
 #include "show.h"
@@ -11,15 +12,8 @@
 #include <string.h>
 #include <unistd.h>
 
-enum { CHANNELS = 6 };
-
 /* Beside the ways to end: the line was quit. */
 enum { LINE_QUIT = -1 };
-
-struct line {
-    const char *text;
-    size_t len;
-};
 
 static int take_bytes(struct session *session, struct line line, struct line_fault *fault) {
     size_t count;
@@ -28,7 +22,7 @@ static int take_bytes(struct session *session, struct line line, struct line_fau
         fprintf(stderr, "desk: no memory for a line of %zu characters\n", line.len);
         return EXIT_USAGE;
     }
-    const bool good = line_bytes(line.text, line.len, bytes, &count, fault);
+    const bool good = line_bytes(line, bytes, &count, fault);
     const int status = good ? session_bytes(session, bytes, count) : EXIT_USAGE;
     free(bytes);
     return status;
@@ -36,15 +30,15 @@ static int take_bytes(struct session *session, struct line line, struct line_fau
 
 static int take_sample(struct session *session, struct line line, size_t at, struct line_fault *fault) {
     float sample[CHANNELS];
-    if (!line_numbers(line.text, line.len, at, sample, CHANNELS, fault))
+    if (!line_numbers(line, at, sample, CHANNELS, fault))
         return EXIT_USAGE;
     return session_sample(session, sample);
 }
 
 static int take_show(const struct session *session, struct line line, size_t at, struct line_fault *fault) {
     size_t behind;
-    const bool code = line_says(line.text, line.len, at, "code", &behind);
-    if (!line_ends(line.text, line.len, code ? behind : at, fault))
+    const bool code = line_says(line, at, "code", &behind);
+    if (!line_ends(line, code ? behind : at, fault))
         return EXIT_USAGE;
     show_record(session->record, code);
     return EXIT_DONE;
@@ -56,7 +50,7 @@ static int take_word(struct session *session, enum word word, struct line line, 
         return take_sample(session, line, at, fault);
     if (word == WORD_SHOW)
         return take_show(session, line, at, fault);
-    if (!line_ends(line.text, line.len, at, fault))
+    if (!line_ends(line, at, fault))
         return EXIT_USAGE;
     if (word == WORD_FACTORY)
         return session_factory(session);
@@ -72,7 +66,7 @@ static int take_word(struct session *session, enum word word, struct line line, 
 static int take_line(struct session *session, struct line line, size_t number) {
     struct line_fault fault = {0, ""};
     size_t behind;
-    const enum word word = line_word(line.text, line.len, &behind);
+    const enum word word = line_word(line, &behind);
     const int status = word == WORD_NONE ? take_bytes(session, line, &fault)
                                          : take_word(session, word, line, behind, &fault);
     fflush(stdout);
@@ -81,8 +75,7 @@ static int take_line(struct session *session, struct line line, size_t number) {
     return status;
 }
 
-/* A refused call is remembered; a bad line ends it all, but not for somebody who sits there and can type it
- * anew. */
+/* A refused call is remembered. A bad line is the end, but not for somebody who can type it anew. */
 static bool goes_on(int now, bool terminal, int *status) {
     if (now == LINE_QUIT)
         return false;
@@ -115,13 +108,14 @@ int take_input(struct session *session) {
             !goes_on(take_line(session, (struct line){text, (size_t)len}, number), terminal, &status))
             break;
     }
+    if (ferror(stdin) != 0) {
+        fprintf(stderr, "desk: the input cannot be read: %s\n", strerror(errno));
+        status = EXIT_USAGE;
+    }
     if (terminal && len < 0)
         puts("");
     free(text);
-    if (ferror(stdin) == 0)
-        return status;
-    fprintf(stderr, "desk: the input cannot be read: %s\n", strerror(errno));
-    return EXIT_USAGE;
+    return status;
 }
 
 int take_text(struct session *session, const char *text) {

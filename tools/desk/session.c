@@ -7,8 +7,6 @@
 #include <stdio.h>
 #include <string.h>
 
-enum { CHANNELS = 6, FLOAT_SIZE = 4 };
-
 int session_refused(const char *call, struct board_answer answer) {
     fflush(stdout);
     fprintf(stderr, "desk: the %s call is refused with %u: %s\n", call, (unsigned)answer.result,

@@ -8,8 +8,6 @@
 #include <stdio.h>
 #include <string.h>
 
-enum { INPUTS_FROM = 2, OUTPUTS = 4, CHANNELS = 6, FLOAT_SIZE = 4 };
-
 static void row(const char *name, const char *words) { screen_row(name, words, TONE_PLAIN); }
 
 static void setting(const uint8_t *record, size_t at, const struct field *field) {

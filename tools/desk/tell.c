@@ -9,8 +9,6 @@
 #include <stdio.h>
 #include <string.h>
 
-enum { CHANNELS = 6, FLOAT_SIZE = 4 };
-
 void tell_word(const struct teller *teller, const char *word, const char *words) {
     if (!teller->hex)
         screen_row(word, words, TONE_GOOD);
