@@ -26,6 +26,13 @@ static void start_record(uint8_t *record) {
     board_samples(record, BOARD_RECORD_SIZE, sample, sizeof sample, output, sizeof output);
 }
 
+/* The data of a reply that is done are as long as the table says. */
+static bool has_data(const uint8_t *frame, const uint8_t *reply) {
+    const struct command *command = command_named(KIND_OF(frame[AT_HEAD]), frame[AT_NUMBER]);
+    const size_t count = COUNT_OF(reply[AT_HEAD]);
+    return fields_fewest(command->data) <= count && count <= fields_most(command->data);
+}
+
 /* Bits 0 and 1: open, unlocked; bits 2 and 3: the tries. */
 static void one_frame(unsigned access, unsigned head, unsigned number, const uint8_t *parameters) {
     uint8_t record[BOARD_RECORD_SIZE], frame[FRAME_MOST], reply[BOARD_ROOM(0, FRAME_MOST)];
@@ -41,8 +48,10 @@ static void one_frame(unsigned access, unsigned head, unsigned number, const uin
     const enum status told = judge(record, frame).status;
     const struct board_answer answer =
         board_bytes(record, sizeof record, frame, FRAME_AROUND + count, reply, sizeof reply);
-    tally(answer.result == BOARD_DONE && answer.written >= FRAME_AROUND && reply[AT_STATUS] == told,
-          "a frame with head and number", head, number);
+    const bool agreed =
+        answer.result == BOARD_DONE && answer.written >= FRAME_AROUND && reply[AT_STATUS] == told;
+    tally(agreed && (told != STATUS_DONE || has_data(frame, reply)), "a frame with head and number", head,
+          number);
 }
 
 /* Every number, count and state, with the code, with small values, with zeros and with ones. */
@@ -65,7 +74,7 @@ static unsigned let_through(const struct command *command) {
 /* Every value of one byte, and every pair of values where two are taken. */
 static void every_value(void) {
     for (const struct command *command = commands; command < commands + commands_count; command++) {
-        const unsigned pairs = command_most(command) == 2 ? BYTE_VALUES : 1;
+        const unsigned pairs = fields_most(command->parameters) == 2 ? BYTE_VALUES : 1;
         for (unsigned k = 0; k < BYTE_VALUES * pairs; k++) {
             const uint8_t values[PARAMETERS_MOST] = {(uint8_t)k, (uint8_t)(k / BYTE_VALUES)};
             one_frame(let_through(command), command->kind + (pairs == 1 ? 1U : 2U), command->number, values);

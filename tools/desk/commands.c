@@ -66,17 +66,17 @@ const struct command *command_named(unsigned kind, uint8_t number) {
     return NULL;
 }
 
-size_t command_fewest(const struct command *command) {
+size_t fields_fewest(const struct field *const *fields) {
     size_t bytes = 0;
-    for (size_t i = 0; i < FIELDS_MOST && command->parameters[i] != NULL; i++)
-        bytes += command->parameters[i]->fewest;
+    for (size_t i = 0; i < FIELDS_MOST && fields[i] != NULL; i++)
+        bytes += fields[i]->fewest;
     return bytes;
 }
 
-size_t command_most(const struct command *command) {
+size_t fields_most(const struct field *const *fields) {
     size_t bytes = 0;
-    for (size_t i = 0; i < FIELDS_MOST && command->parameters[i] != NULL; i++)
-        bytes += command->parameters[i]->most;
+    for (size_t i = 0; i < FIELDS_MOST && fields[i] != NULL; i++)
+        bytes += fields[i]->most;
     return bytes;
 }
 

@@ -56,9 +56,9 @@ extern const size_t commands_count;
 /* NULL if the number is not known under this kind of head. */
 const struct command *command_named(unsigned kind, uint8_t number);
 
-/* The fewest and the most parameter bytes that a command takes. */
-size_t command_fewest(const struct command *command);
-size_t command_most(const struct command *command);
+/* The fewest and the most bytes of a command's parameters or data. */
+size_t fields_fewest(const struct field *const *fields);
+size_t fields_most(const struct field *const *fields);
 
 /* A status, what it says and when the board gives it. */
 struct status_row {

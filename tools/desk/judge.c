@@ -68,7 +68,7 @@ struct verdict judge(const uint8_t *record, const uint8_t *frame) {
         verdict.status = STATUS_UNKNOWN;
     else if (command->access == NOT_BUILT)
         verdict.status = STATUS_NOT_BUILT;
-    else if (count < command_fewest(command) || count > command_most(command))
+    else if (count < fields_fewest(command->parameters) || count > fields_most(command->parameters))
         verdict.status = STATUS_WRONG_COUNT;
     else if ((verdict.cause = cause_of(record, command->access, frame + AT_PARAMETERS)) != CAUSE_NONE)
         verdict.status = STATUS_NO_ACCESS;

@@ -91,9 +91,9 @@ static int digit_of(char c) {
 static bool no_digit(struct line_fault *fault, struct line line, size_t at) {
     const unsigned char c = (unsigned char)line.text[at];
     if (c == 'O' || c == 'o')
-        return wrong(fault, line, at, "%c is a letter; a zero is 0", c);
+        return wrong(fault, line, at, "%c is a letter, not a zero", c);
     if (c == 'l' || c == 'I')
-        return wrong(fault, line, at, "%c is a letter; a one is 1", c);
+        return wrong(fault, line, at, "%c is a letter, not a one", c);
     if (isprint(c))
         return wrong(fault, line, at, "%c is no hex digit; 'help' lists the words that may start a line", c);
     return wrong(fault, line, at, "this character is no hex digit");

@@ -48,7 +48,7 @@ void request_words(const uint8_t *frame, char *words) {
         add(words, "%s command %02X", kind_words(KIND_OF(frame[AT_HEAD])), frame[AT_NUMBER]);
     else if (command->access == NOT_BUILT)
         add(words, "%s (%s)", command->title, command->source);
-    else if (count < command_fewest(command) || count > command_most(command))
+    else if (count < fields_fewest(command->parameters) || count > fields_most(command->parameters))
         add(words, "%s, with %zu parameter byte%s", command->title, count, count == 1 ? "" : "s");
     else {
         add(words, "%s", command->title);
@@ -79,7 +79,7 @@ static void add_data(const struct command *command, const uint8_t *data, size_t 
 }
 
 static void add_count(const struct command *command, size_t count, char *words) {
-    const size_t fewest = command_fewest(command), most = command_most(command);
+    const size_t fewest = fields_fewest(command->parameters), most = fields_most(command->parameters);
     if (most == 0)
         add(words, "it takes no parameters");
     else if (fewest == most)
