@@ -45,12 +45,16 @@ const struct command commands[] = {
 const struct status_row statuses[] = {
     {STATUS_UNKNOWN, "no such command", "the number is not listed under this head"},
     {STATUS_NOT_BUILT, "known, but not built", "the number is listed as not built"},
-    {STATUS_WRONG_COUNT, "wrong number of parameters", "the head announces more or fewer bytes than the command takes"},
+    {STATUS_WRONG_COUNT, "wrong number of parameters",
+     "the head announces more or fewer bytes than the command takes"},
     {STATUS_NO_ACCESS, "no access",
-     "the first of these that applies: configuration mode is closed (BT121 commands other than E0); it is open "
-     "(amplifier commands); the board is locked (1C); three wrong tries are used (19); the code is wrong (19), which adds a try"},
-    {STATUS_TOO_BIG, "a parameter is too big", "the first parameter from the left that is out of its range is above it"},
-    {STATUS_TOO_SMALL, "a parameter is too small", "the first parameter from the left that is out of its range is below it, or in its gap"},
+     "the first of these that applies: configuration mode is closed (BT121 commands other than E0); "
+     "it is open (amplifier commands); the board is locked (1C); three wrong tries are used (19); "
+     "the code is wrong (19), which adds a try"},
+    {STATUS_TOO_BIG, "a parameter is too big",
+     "the first parameter from the left that is out of its range is above it"},
+    {STATUS_TOO_SMALL, "a parameter is too small",
+     "the first parameter from the left that is out of its range is below it, or in its gap"},
     {STATUS_DONE, "done", "nothing above applies"},
 };
 /* clang-format on */

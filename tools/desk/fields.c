@@ -9,9 +9,11 @@ const struct field field_power      = {"Classic power", FORM_SIGNED, 2, 2, -20, 
 const struct field field_step       = {"LE power step", FORM_SIGNED, 1, 1, 0, 5, false, NULL,
                                        "0 7 dBm;1 2 dBm;2 -3 dBm;3 -8 dBm;4 -13 dBm;5 -18 dBm"};
 const struct field field_mode       = {"mode", FORM_SIGNED, 1, 1, 0, 1, false, NULL, "0 LE;1 Classic"};
-const struct field field_on_off     = {"on/off state", FORM_SIGNED, 1, 1, 0, 2, false, NULL, "0 off;1 on;2 automatic"};
+const struct field field_on_off     = {"on/off state", FORM_SIGNED, 1, 1, 0, 2, false, NULL,
+                                       "0 off;1 on;2 automatic"};
 const struct field field_input      = {"channel", FORM_SIGNED, 1, 1, 2, 6, false, NULL, NULL};
-const struct field field_type       = {"input type", FORM_SIGNED, 1, 1, 0, 1, false, NULL, "0 strain gauge;1 single-ended"};
+const struct field field_type       = {"input type", FORM_SIGNED, 1, 1, 0, 1, false, NULL,
+                                       "0 strain gauge;1 single-ended"};
 const struct field field_output     = {"output", FORM_SIGNED, 1, 1, 1, 4, false, NULL, NULL};
 const struct field field_switch     = {"switch", FORM_SIGNED, 1, 1, 0, 1, false, NULL, "0 off;1 on"};
 const struct field field_interval   = {"interval", FORM_SIGNED, 1, 1, 4, 59, true, " seconds", "0 counted in minutes"};
