@@ -14,7 +14,7 @@ enum { GUARD = 32, FILLING = 0xC3 };
 
 /* A program's own copy of what is lent, each buffer between guard bytes. */
 struct lent {
-    uint8_t guard;
+    uint8_t guard, record_guard;
     uint8_t record[GUARD + RECORD_ROOM + GUARD];
     uint8_t input[GUARD + INPUT_ROOM + GUARD];
     uint8_t output[GUARD + OUTPUT_ROOM + GUARD];
@@ -48,7 +48,7 @@ static bool guarded(const uint8_t *buffer, size_t len, uint8_t guard) {
 static void run(const struct program *program, const struct given *given, struct lent *lent) {
     struct request request = {
         .call = given->call,
-        .record = lend(lent->record, given->record, given->record_len, lent->guard),
+        .record = lend(lent->record, given->record, given->record_len, lent->record_guard),
         .record_len = given->record_len,
         .input = lend(lent->input, given->input, given->input_len, lent->guard),
         .input_len = given->input_len,
@@ -65,7 +65,7 @@ static void run(const struct program *program, const struct given *given, struct
 }
 
 static bool all_guarded(const struct lent *lent, const struct given *given) {
-    return guarded(lent->record, given->record_len, lent->guard) &&
+    return guarded(lent->record, given->record_len, lent->record_guard) &&
            guarded(lent->input, given->input_len, lent->guard) &&
            guarded(lent->output, given->room, lent->guard);
 }
@@ -133,6 +133,8 @@ struct board_answer both(const struct given *given) {
     for (unsigned i = 0; i < PROGRAMS; i++) {
         /* Guards that differ, so that reading beyond a buffer shows too. */
         lents[i].guard = (i ^ turn) == 0 ? 0xAA : 0x85;
+        /* Behind the last pair stand floats that are no numbers, or zeros. */
+        lents[i].record_guard = (i ^ turn) == 0 ? 0xFF : 0x00;
         run(&programs[i], given, &lents[i]);
         good = good && all_guarded(&lents[i], given) && input_kept(&lents[i], given);
     }

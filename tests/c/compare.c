@@ -15,7 +15,7 @@ static const struct part {
 } parts[] = {
     {"tables", run_tables, 210},      {"commands", run_commands, 1193744},
     {"limits", run_limits, 11718},    {"changes", run_changes, 1983786},
-    {"hunts", run_hunts, 22026},      {"readings", run_readings, 140808},
+    {"hunts", run_hunts, 23562},      {"readings", run_readings, 221192},
     {"streams", run_streams, 200000},
 };
 

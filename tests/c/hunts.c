@@ -11,12 +11,13 @@
 /* Up to one byte more than the longest frame, and a last byte that is 85 or nearly so. */
 static void every_head(void) {
     static const uint8_t lasts[] = {0x85, 0x84, 0x05};
-    uint8_t record[RECORD_SIZE], bytes[FRAME_MOST + 1] = {0xAA};
+    uint8_t record[RECORD_SIZE], bytes[FRAME_MOST + 1];
     for (unsigned k = 0; k < 256 * sizeof lasts; k++) {
-        for (size_t len = 3; len <= sizeof bytes; len++) {
-            memset(bytes + 1, 0, sizeof bytes - 1);
-            bytes[1] = (uint8_t)(k / sizeof lasts);
+        for (size_t len = 1; len <= sizeof bytes; len++) {
+            memset(bytes, 0, sizeof bytes);
             bytes[len - 1] = lasts[k % sizeof lasts];
+            bytes[0] = 0xAA;
+            bytes[1] = (uint8_t)(k / sizeof lasts);
             memcpy(record, factory_record, RECORD_SIZE);
             both_bytes(record, bytes, len);
         }

@@ -8,7 +8,7 @@
 #include <stdio.h>
 #include <string.h>
 
-enum { PATTERNS = 40 };
+enum { PATTERNS = 48 };
 
 /* Neighbours stand beside each other; each row has the pattern and the same with the other sign. */
 static const uint32_t patterns[PATTERNS] = {
@@ -23,6 +23,8 @@ static const uint32_t patterns[PATTERNS] = {
     0x7F800001, 0xFF800001,                                                 /* signalling not-a-numbers */
     0x7FBFFFFF, 0xFFBFFFFF, 0x7FC00000, 0xFFC00000,                         /* quiet not-a-numbers */
     0x7FFFFFFF, 0xFFFFFFFF, 0x449A5225, 0xC49A5225,                         /* four bytes that differ */
+    0x3F8000FF, 0xBF8000FF, 0x3F800100, 0xBF800100,                         /* a carry to the third byte */
+    0x3F80FFFF, 0xBF80FFFF, 0x3F810000, 0xBF810000,                         /* a carry to the second */
 };
 
 static void put_pattern(uint8_t *to, uint32_t bits) {
