@@ -23,6 +23,11 @@ struct lent {
 
 static struct lent lents[PROGRAMS];
 
+enum { TURNS = 4 };
+
+/* Guards that differ, so that reading beyond a buffer shows too: bytes of frames, no number, zero. */
+static const uint8_t guards[TURNS][PROGRAMS] = {{0xAA, 0x85}, {0xFF, 0x00}, {0x85, 0xAA}, {0x00, 0xFF}};
+
 /* The case under way, for a program that crashes on it. */
 static const struct given *current;
 
@@ -126,15 +131,14 @@ static void show_left(const struct program *program, const struct lent *lent, co
 }
 
 struct board_answer both(const struct given *given) {
-    static uint8_t turn;
+    static unsigned turn;
     bool good = true;
-    turn ^= 1;
+    turn = (turn + 1) % TURNS;
     current = given;
     for (unsigned i = 0; i < PROGRAMS; i++) {
-        /* Guards that differ, so that reading beyond a buffer shows too. */
-        lents[i].guard = (i ^ turn) == 0 ? 0xAA : 0x85;
-        /* Behind the last pair stand floats that are no numbers, or zeros. */
-        lents[i].record_guard = (i ^ turn) == 0 ? 0xFF : 0x00;
+        lents[i].guard = guards[turn][i];
+        /* Not the same, so that copying from guard to guard shows. */
+        lents[i].record_guard = guards[(turn + 1) % TURNS][i];
         run(&programs[i], given, &lents[i]);
         good = good && all_guarded(&lents[i], given) && input_kept(&lents[i], given);
     }
