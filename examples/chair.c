@@ -43,7 +43,7 @@ static struct board_answer done(const char *call, struct board_answer answer) {
 }
 
 static void check_archive(void) {
-    uint8_t fresh[BOARD_RECORD_SIZE];
+    uint8_t fresh[BOARD_RECORD_SIZE] = {[BOARD_AT_VERSION] = BOARD_RECORD_VERSION};
     if (board_factory(fresh, sizeof fresh).result != BOARD_DONE ||
         fresh[BOARD_AT_VERSION] != BOARD_RECORD_VERSION) {
         printf("the archive is not that of board.h " BOARD_VERSION "\n");
