@@ -16,9 +16,11 @@ use Rattle.record.specs.Births.{factory, poweredOn}
 use Rattle.record.specs.Place.{Sound, Turns}
 use Rattle.record.specs.declared.Form.the-variants.{Good, Bad}
 use Rattle.record.proofs.RoundTrip.{in-range, write-back}
-use Rattle.board.specs.declared.Answer.{Answer}
-use Rattle.board.specs.declared.Ending.the-variants.{Done, BadRecord}
-use Rattle.board.specs.Calls.{Outcome, zeroes, refused, factoryCall, powerOnCall, Leaves}
+use Rattle.call.specs.declared.Answer.{Answer}
+use Rattle.call.specs.declared.Ending.the-variants.{Done, BadRecord}
+use Rattle.call.specs.Outcome.{zeroes, refused, Leaves}
+use Rattle.call.proofs.InOrder.{left}
+use Rattle.board.specs.Calls.{factoryCall, powerOnCall}
 use Rattle.board.proofs.Unfolded.{factory-by, power-on-by}
 
 -- ---- what the check's answer says of the bytes
@@ -26,6 +28,9 @@ use Rattle.board.proofs.Unfolded.{factory-by, power-on-by}
 good-by : (b : Bool) → formBy b ≡ Good → b ≡ true
 good-by true e = refl
 good-by false e = let z : _≡_ {A = ℕ} 0 1 = cc in absurd (omega arith)
+
+pub form-good : (s : List ℕ) → wellFormed s ≡ true → formOf s ≡ Good
+form-good s w = ap formBy w
 
 pub good-well : (s : List ℕ) → formOf s ≡ Good → wellFormed s ≡ true
 good-well s e = good-by (wellFormed s) e
@@ -40,10 +45,7 @@ good-long s e = well-long s (good-well s e)
 pub good-sound : (s : List ℕ) → Bytes s → formOf s ≡ Good → Sound s
 good-sound s b e = record { fit = in-range s b (good-well s e); same = sym (write-back s b (good-well s e)) }
 
--- ---- an outcome left
-
-pub left : (z w : Outcome) → z ≡ w → (a : Answer) (kept output : List ℕ) → a ≡ w .answer → kept ≡ w .kept → output ≡ w .output → Leaves z a kept output
-left z w e a kept output p q r = record { answered = p ∙ sym (ap (λ (x : Outcome). x .answer) e); keeps = q ∙ sym (ap (λ (x : Outcome). x .kept) e); puts = r ∙ sym (ap (λ (x : Outcome). x .output) e) }
+-- ---- factory and power-on
 
 module _ (s : List ℕ) (a : Answer) where
   pub factory-refuses : (length s ≡ recordSize → ⊥) → a ≡ zeroes BadRecord → Leaves (factoryCall s) a s []

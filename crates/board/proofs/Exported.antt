@@ -6,7 +6,9 @@ use contract.Lifetimes.{Lfts}
 use denote.Ref.{now}
 use denote.Triple.Clauses.{AtExit}
 use borrow.Fn.Kinds.{PK, RK, In, Out, Dens, resT, endedOf}
-use Rattle.board.specs.Calls.{Outcome, factoryCall, powerOnCall, bytesCall, samplesCall, Allows}
+use Rattle.call.specs.Outcome.{Outcome, Allows}
+use Rattle.call.proofs.InOrder.{allowed-is}
+use Rattle.board.specs.Calls.{factoryCall, powerOnCall, bytesCall, samplesCall}
 use Rattle.board.proofs.factory.board_factory.Reads as factory
 use Rattle.board.proofs.factory.board_factory.Kinds as factory-kinds
 use Rattle.board.proofs.power_on.board_power_on.Reads as power-on
@@ -15,10 +17,6 @@ use Rattle.board.proofs.bytes.board_bytes.Reads as bytes
 use Rattle.board.proofs.bytes.board_bytes.Kinds as bytes-kinds
 use Rattle.board.proofs.samples.board_samples.Reads as samples
 use Rattle.board.proofs.samples.board_samples.Kinds as samples-kinds
-
--- what a contract allows is the outcome that it names
-pub allowed-is : (z x : Outcome) → Allows z x → x ≡ z
-allowed-is z x h = λ i. record { answer = h .answered i; kept = h .keeps i; output = h .puts i }
 
 left : {A : Type 0} (z x : Outcome) → A ≡ Allows z x → A → x ≡ z
 left z x e p = allowed-is z x (subst (λ B. B) e p)

@@ -12,10 +12,11 @@ use Rattle.record.specs.Layout.{channels, bytesOf, recordOf}
 use Rattle.record.specs.Form.{formOf}
 use Rattle.record.specs.Reading.{readingOf}
 use Rattle.record.specs.declared.Form.the-variants.{Good, Bad}
-use Rattle.board.specs.declared.Answer.{Answer}
-use Rattle.board.specs.declared.Ending.the-variants.{Done, BadRecord, BadLength, NoRoom, NotFinite}
-use Rattle.board.specs.Calls.{zeroes, refused, done, sampleSize, frameSize, measured, samplesCall, Leaves}
-use Rattle.board.proofs.Ends.{left}
+use Rattle.call.specs.declared.Answer.{Answer}
+use Rattle.call.specs.declared.Ending.the-variants.{Done, BadRecord, BadLength, NoRoom, NotFinite}
+use Rattle.call.specs.Outcome.{zeroes, refused, done, Leaves}
+use Rattle.call.proofs.InOrder.{left}
+use Rattle.board.specs.Calls.{sampleSize, frameSize, measured, samplesCall}
 use Rattle.board.proofs.Unfolded.{samples-by}
 
 module _ (s sample o : List ℕ) (a : Answer) where

@@ -1,9 +1,11 @@
 // Bytes: received bytes in, replies out.
-ghost use Rattle.board.specs.Calls.{bytesCall, Leaves};
-use crate::Answer;
-use crate::Ending;
-use crate::ended;
+ghost use Rattle.call.specs.Outcome.{Leaves};
+ghost use Rattle.board.specs.Calls.{bytesCall};
+use call::Answer;
+use call::Ending;
+use call::ended;
 use form::form_of;
+use hunt::room_for;
 use hunt::serve;
 use record::Form;
 
@@ -18,7 +20,7 @@ pub extern "C" fn board_bytes(rec: &mut [u8], input: &[u8], out: &mut [u8]) -> A
         return ended(Ending::BadLength);
     }
     let held = rec[56] as usize;
-    if out.len() < 19 * ((held + input.len()) / 4) {
+    if out.len() < room_for(held, input.len()) {
         return ended(Ending::NoRoom);
     }
     let p = serve(rec, input, out);

@@ -1,9 +1,10 @@
 // Factory: a new record over any bytes.
 ghost use mathlib.Core.List.{[]};
-ghost use Rattle.board.specs.Calls.{factoryCall, Leaves};
-use crate::Answer;
-use crate::Ending;
-use crate::ended;
+ghost use Rattle.call.specs.Outcome.{Leaves};
+ghost use Rattle.board.specs.Calls.{factoryCall};
+use call::Answer;
+use call::Ending;
+use call::ended;
 use parts::fresh::write_factory;
 
 #[no_mangle]

@@ -1,9 +1,10 @@
 // Power-on: the record as it is after a power cycle.
 ghost use mathlib.Core.List.{[]};
-ghost use Rattle.board.specs.Calls.{powerOnCall, Leaves};
-use crate::Answer;
-use crate::Ending;
-use crate::ended;
+ghost use Rattle.call.specs.Outcome.{Leaves};
+ghost use Rattle.board.specs.Calls.{powerOnCall};
+use call::Answer;
+use call::Ending;
+use call::ended;
 use form::form_of;
 use parts::fresh::switch_on;
 use record::Form;

@@ -3,3 +3,4 @@ pub mod SofarLaws
 pub mod GoingLaws
 pub mod ServeLaws
 pub mod JoinLaws
+pub mod Room

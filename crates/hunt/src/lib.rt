@@ -4,6 +4,7 @@ ghost use Prim.Native.Nat.{_+_, _-_, _*_, _/_, _≤_};
 ghost use lib.ListN.{length, take, drop};
 ghost use Rattle.record.specs.Layout.{recordOf};
 ghost use Rattle.record.specs.Place.{Sound};
+ghost use Rattle.hunt.specs.Hunt.{roomFor};
 ghost use Rattle.hunt.specs.Progress.{Hunts, Rests, Joins, Serves};
 use carry::carry;
 use finder::Seen;
@@ -22,6 +23,14 @@ pub struct Progress {
 pub struct Served {
     pub written: usize,
     pub skipped: usize,
+}
+
+// The output that the replies to pending bytes and input can fill.
+pub fn room_for(held: usize, len: usize) -> usize
+    requires { ⌜ (held ≤ 18) × (len ≤ 4096) ⌝ }
+    ensures { λ n. ⌜ n ≡ roomFor (held + len) ⌝ }
+{
+    19 * ((held + len) / 4)
 }
 
 // Hunts through s up to the first piece that begins at `until` or later; writes the replies from a place on.
@@ -97,7 +106,7 @@ fn hunt_rest(rec: &mut [u8], s: &[u8], out: &mut [u8], start: usize) -> Progress
 pub fn serve(rec: &mut [u8], input: &[u8], out: &mut [u8]) -> Served
     requires { ⌜ Sound (now rec) ⌝ }
     requires { ⌜ length (now input) ≤ 4096 ⌝ }
-    requires { ⌜ 19 * ((length (recordOf (now rec) .pending) + length (now input)) / 4) ≤ length (now out) ⌝ }
+    requires { ⌜ roomFor (length (recordOf (now rec) .pending) + length (now input)) ≤ length (now out) ⌝ }
     ensures { λ t. ⌜ Serves (recordOf (now (rec .entry))) (now (input .entry)) (now (out .entry)) t (now (rec .exit)) (now (out .exit)) ⌝ }
 {
     let held = rec[56] as usize;

@@ -67,11 +67,8 @@ slice-read-held c = omega (arith, good-long (rec₀ (c .before .before)) (good (
 cast-held : tie.Need-cast-held
 cast-held c = omega (arith, held-few (rec₀ (c .before .before)) (sound (c .before .before)))
 
-add-if2 : tie.Need-add-if2
-add-if2 c = omega (arith, held-few (rec₀ (c .before .before)) (sound (c .before .before)), c .before .if1 .left)
-
-mul-if2 : tie.Need-mul-if2
-mul-if2 c = omega (arith, held-few (rec₀ (c .before .before)) (sound (c .before .before)), c .before .if1 .left)
+room-for-requires : tie.Need-room-for-requires
+room-for-requires c κs = (held-few (rec₀ (c .before .before)) (sound (c .before .before)), omega (arith, c .before .if1 .left))
 
 ended-requires-3 : tie.Need-ended-requires-3
 ended-requires-3 c κs = search needs
@@ -81,28 +78,28 @@ same-length-3 c = search needs
 
 returns-3 : tie.Need-returns-3
 returns-3 c =
-    let z = c .before .before .before .before .before .before .before .before .before .before .before .args in
-    let g = c .before .before .before .before in
-    bytes-no-room (z .rec .now) (z .input .now) (z .out .now) _ (good g) (bytes g) (omega (arith, c .before .before .before .if1 .left)) (c .before .if2 .taken) (c .ended3 .ensures)
+    let z = c .before .before .before .before .before .before .before .before .before .before .before .before .args in
+    let g = c .before .before .before .before .before in
+    bytes-no-room (z .rec .now) (z .input .now) (z .out .now) _ (good g) (bytes g) (omega (arith, c .before .before .before .before .if1 .left)) (omega (arith, c .before .if2 .taken, c .before .before .room-for .ensures)) (c .ended3 .ensures)
 
 serve-requires : tie.Need-serve-requires
 serve-requires c κs =
-    let g = c .before .before .before .before .before in
-    (sound g, (omega (arith, c .before .before .before .before .if1 .left), omega (arith, held-is (rec₀ g) (sound g), c .before .before .if2 .left)))
+    let g = c .before .before .before .before .before .before in
+    (sound g, (omega (arith, c .before .before .before .before .before .if1 .left), omega (arith, held-is (rec₀ g) (sound g), c .before .before .if2 .left, c .before .before .before .room-for .ensures)))
 
-cast-t24 : tie.Need-cast-t24
-cast-t24 c =
-    let z = c .before .before .before .before .before .before .before .before .before .before .before .before .before .before .before .before .before .before .args in
-    let g = c .before .before .before .before .before .before .before .before .before .before .before in
-    let s = c .before .before .before .before .before .serve in
-    omega (arith, served-small (z .rec .now) (z .input .now) (z .out .now) (s .result) _ _ (sound g) (input-bytes g) (omega (arith, c .before .before .before .before .before .before .before .before .before .before .if1 .left)) (s .ensures) .0)
-
-cast-t25 : tie.Need-cast-t25
-cast-t25 c =
+cast-t22 : tie.Need-cast-t22
+cast-t22 c =
     let z = c .before .before .before .before .before .before .before .before .before .before .before .before .before .before .before .before .before .before .before .args in
     let g = c .before .before .before .before .before .before .before .before .before .before .before .before in
+    let s = c .before .before .before .before .before .serve in
+    omega (arith, served-small (z .rec .now) (z .input .now) (z .out .now) (s .result) _ _ (sound g) (input-bytes g) (omega (arith, c .before .before .before .before .before .before .before .before .before .before .before .if1 .left)) (s .ensures) .0)
+
+cast-t23 : tie.Need-cast-t23
+cast-t23 c =
+    let z = c .before .before .before .before .before .before .before .before .before .before .before .before .before .before .before .before .before .before .before .before .args in
+    let g = c .before .before .before .before .before .before .before .before .before .before .before .before .before in
     let s = c .before .before .before .before .before .before .serve in
-    omega (arith, served-small (z .rec .now) (z .input .now) (z .out .now) (s .result) _ _ (sound g) (input-bytes g) (omega (arith, c .before .before .before .before .before .before .before .before .before .before .before .if1 .left)) (s .ensures) .1)
+    omega (arith, served-small (z .rec .now) (z .input .now) (z .out .now) (s .result) _ _ (sound g) (input-bytes g) (omega (arith, c .before .before .before .before .before .before .before .before .before .before .before .before .if1 .left)) (s .ensures) .1)
 
 same-length-4 : tie.Need-same-length-4
 same-length-4 c = search needs
@@ -112,10 +109,10 @@ same-length-5 c = search needs
 
 returns-4 : tie.Need-returns-4
 returns-4 c =
-    let z = c .before .before .before .before .before .before .before .before .before .before .before .before .before .before .before .before .before .before .before .args in
-    let g = c .before .before .before .before .before .before .before .before .before .before .before .before in
+    let z = c .before .before .before .before .before .before .before .before .before .before .before .before .before .before .before .before .before .before .before .before .args in
+    let g = c .before .before .before .before .before .before .before .before .before .before .before .before .before in
     let s = c .before .before .before .before .before .before .serve in
-    bytes-done (z .rec .now) (z .input .now) (z .out .now) _ (good g) (bytes g) (omega (arith, c .before .before .before .before .before .before .before .before .before .before .before .if1 .left)) (omega (arith, c .before .before .before .before .before .before .before .before .before .if2 .left)) (s .result) _ _ (s .ensures) refl
+    bytes-done (z .rec .now) (z .input .now) (z .out .now) _ (good g) (bytes g) (omega (arith, c .before .before .before .before .before .before .before .before .before .before .before .before .if1 .left)) (omega (arith, c .before .before .before .before .before .before .before .before .before .if2 .left, c .before .before .before .before .before .before .before .before .before .before .room-for .ensures)) (s .result) _ _ (s .ensures) refl
 
 pub board-bytes-spec : {M : Type 1} → statement M
 board-bytes-spec =
@@ -132,14 +129,13 @@ board-bytes-spec =
     returns-2
     slice-read-held
     cast-held
-    add-if2
-    mul-if2
+    room-for-requires
     ended-requires-3
     same-length-3
     returns-3
     serve-requires
-    cast-t24
-    cast-t25
+    cast-t22
+    cast-t23
     same-length-4
     same-length-5
     returns-4)

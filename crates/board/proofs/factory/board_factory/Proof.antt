@@ -4,7 +4,6 @@ use Rattle.board.proofs.factory.board_factory.Statement.{statement}
 use Rattle.board.proofs.factory.board_factory.Tie as tie
 use Rattle.board.proofs.factory.board_factory.Reads as reads
 use Rattle.board.proofs.factory.board_factory.Lts as lts
-use Rattle.board.proofs.ended.Reads as ended-reads
 use Rattle.parts.proofs.fresh.write_factory.Reads as write-factory-reads
 
 ended-requires : tie.Need-ended-requires

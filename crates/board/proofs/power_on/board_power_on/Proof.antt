@@ -6,7 +6,6 @@ use Rattle.board.proofs.power_on.board_power_on.Statement.{statement}
 use Rattle.board.proofs.power_on.board_power_on.Tie as tie
 use Rattle.board.proofs.power_on.board_power_on.Reads as reads
 use Rattle.board.proofs.power_on.board_power_on.Lts as lts
-use Rattle.board.proofs.ended.Reads as ended-reads
 use Rattle.form.proofs.form_of.Reads as form-of-reads
 use Rattle.parts.proofs.fresh.switch_on.Reads as switch-on-reads
 

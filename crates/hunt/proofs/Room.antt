@@ -17,8 +17,7 @@ use Rattle.record.specs.Record.{Record}
 use Rattle.record.specs.Form.{InRange}
 use Rattle.command.specs.Step.{stepOf, answer}
 use Rattle.command.proofs.Keep.{step-in, reply-short}
-use Rattle.hunt.specs.Hunt.{huntOf}
-use Rattle.board.specs.Calls.{roomFor}
+use Rattle.hunt.specs.Hunt.{huntOf, roomFor}
 
 -- each frame has at least four bytes
 four : (ps : List Piece) → All Fair ps → 4 * frames ps ≤ sizes ps

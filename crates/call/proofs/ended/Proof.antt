@@ -1,9 +1,9 @@
 use mathlib.Core.Path.{refl}
 use borrow.Author.Needs.{needs}
-use Rattle.board.proofs.ended.Statement.{statement}
-use Rattle.board.proofs.ended.Tie as tie
-use Rattle.board.proofs.ended.Reads as reads
-use Rattle.board.proofs.ended.Lts as lts
+use Rattle.call.proofs.ended.Statement.{statement}
+use Rattle.call.proofs.ended.Tie as tie
+use Rattle.call.proofs.ended.Reads as reads
+use Rattle.call.proofs.ended.Lts as lts
 
 enum-told : tie.Need-enum-told
 enum-told c = search needs

@@ -1,0 +1,118 @@
+-- The first cause that applies decides: what follows from it for any list of causes.
+use Prim.Native.Nat.{ℕ}
+use mathlib.Core.Path.{_≡_, refl, sym, ap, _∙_}
+use mathlib.Core.Logic.{_≢_}
+use mathlib.Core.Bool.{Bool, true, false, cond, true≢false}
+use mathlib.Core.List.{List, [], _∷_}
+use Rattle.call.specs.declared.Ending.{Ending}
+use Rattle.call.specs.declared.Answer.{Answer}
+use Rattle.call.specs.Outcome.{resultOf, Outcome, refused, Cause, inOrder, Leaves, Allows}
+use Rattle.call.specs.Ending.{Reason, NoReason, Refuses, Ends}
+
+-- ---- an outcome left
+
+pub left : (z w : Outcome) → z ≡ w → (a : Answer) (kept output : List ℕ) → a ≡ w .answer → kept ≡ w .kept → output ≡ w .output → Leaves z a kept output
+left z w e a kept output p q r = record { answered = p ∙ sym (ap (λ (x : Outcome). x .answer) e); keeps = q ∙ sym (ap (λ (x : Outcome). x .kept) e); puts = r ∙ sym (ap (λ (x : Outcome). x .output) e) }
+
+-- what a contract allows is the outcome that it names
+pub allowed-is : (z x : Outcome) → Allows z x → x ≡ z
+allowed-is z x h = λ i. record { answer = h .answered i; kept = h .keeps i; output = h .puts i }
+
+-- ---- no cause applies
+
+abbrev pub None : List Cause → Type 0
+None [] = Unit {0}
+None (c ∷ causes) = (c .applies ≡ false) × None causes
+
+pub none-left : (causes : List Cause) (s o : List ℕ) (z : Outcome) → None causes → inOrder causes s o z ≡ z
+none-left [] s o z n = refl
+none-left (c ∷ causes) s o z n = rw (n .0) (none-left causes s o z (n .1))
+
+-- what holds of every refusal, and of what is left when no cause applies, holds of the outcome
+pub in-order : (P : Outcome → Type 0) (causes : List Cause) (s o : List ℕ) (z : Outcome) → ((why : Ending) → P (refused why s o)) → (None causes → P z) → P (inOrder causes s o z)
+in-order P [] s o z refuses next = next tt
+in-order P (c ∷ causes) s o z refuses next = pick (c .applies) refl (λ more. in-order P causes s o z refuses more)
+  where
+    pick : (t : Bool) → c .applies ≡ t → ((None causes → P z) → P (inOrder causes s o z)) → P (cond t (refused (c .why) s o) (inOrder causes s o z))
+    pick true e rest = refuses (c .why)
+    pick false e rest = rest (λ n. next (e, n))
+
+-- and of two boards with the same causes
+pub in-order-both : (R : Outcome → Outcome → Type 0) (causes : List Cause) (s t o : List ℕ) (z w : Outcome) → ((why : Ending) → R (refused why s o) (refused why t o)) → (None causes → R z w)
+    → R (inOrder causes s o z) (inOrder causes t o w)
+in-order-both R [] s t o z w refuses next = next tt
+in-order-both R (c ∷ causes) s t o z w refuses next = pick (c .applies) refl (λ more. in-order-both R causes s t o z w refuses more)
+  where
+    pick : (b : Bool) → c .applies ≡ b → ((None causes → R z w) → R (inOrder causes s o z) (inOrder causes t o w))
+        → R (cond b (refused (c .why) s o) (inOrder causes s o z)) (cond b (refused (c .why) t o) (inOrder causes t o w))
+    pick true e rest = refuses (c .why)
+    pick false e rest = rest (λ n. next (e, n))
+
+-- ---- reasons, each decided by the test of its cause
+
+pub record Decides (c : Cause) (r : Reason) : Type 0 where
+  pub same : c .why ≡ r .why
+  pub number : resultOf (r .why) ≢ 0
+  pub yes : c .applies ≡ true → r .wrong
+  pub no : c .applies ≡ false → ¬ (r .wrong)
+
+abbrev pub DecidesAll : List Cause → List Reason → Type 0
+DecidesAll [] [] = Unit {0}
+DecidesAll [] (r ∷ reasons) = ⊥
+DecidesAll (c ∷ causes) [] = ⊥
+DecidesAll (c ∷ causes) (r ∷ reasons) = Decides c r × DecidesAll causes reasons
+
+applies : (c : Cause) (r : Reason) → Decides c r → r .wrong → c .applies ≡ true
+applies c r d w = by (c .applies) refl
+  where
+    by : (t : Bool) → c .applies ≡ t → t ≡ true
+    by true e = refl
+    by false e = absurd (d .no e w)
+
+spared : (c : Cause) (r : Reason) → Decides c r → ¬ (r .wrong) → c .applies ≡ false
+spared c r d n = by (c .applies) refl
+  where
+    by : (t : Bool) → c .applies ≡ t → t ≡ false
+    by true e = absurd (n (d .yes e))
+    by false e = refl
+
+pub no-reason : (causes : List Cause) (reasons : List Reason) → DecidesAll causes reasons → NoReason reasons → None causes
+no-reason [] [] d n = tt
+no-reason [] (r ∷ reasons) d n = absurd d
+no-reason (c ∷ causes) [] d n = absurd d
+no-reason (c ∷ causes) (r ∷ reasons) d n = (spared c r (d .0) (n .0), no-reason causes reasons (d .1) (n .1))
+
+pub none-wrong : (causes : List Cause) (reasons : List Reason) → DecidesAll causes reasons → None causes → NoReason reasons
+none-wrong [] [] d n = tt
+none-wrong [] (r ∷ reasons) d n = absurd d
+none-wrong (c ∷ causes) [] d n = absurd d
+none-wrong (c ∷ causes) (r ∷ reasons) d n = (d .0 .no (n .0), none-wrong causes reasons (d .1) (n .1))
+
+module _ (s o : List ℕ) (z : Outcome) where
+  refuses : (causes : List Cause) (reasons : List Reason) → DecidesAll causes reasons → Refuses reasons s o (inOrder causes s o z)
+  refuses [] [] d = tt
+  refuses [] (r ∷ reasons) d = absurd d
+  refuses (c ∷ causes) [] d = absurd d
+  refuses (c ∷ causes) (r ∷ reasons) d = (
+    (λ w. rw (applies c r (d .0) w) (ap (λ (why : Ending). refused why s o) (d .0 .same))),
+    λ n. rw (spared c r (d .0) n) (refuses causes reasons (d .1)),
+  )
+
+  ended-none : (causes : List Cause) (reasons : List Reason) → DecidesAll causes reasons → inOrder causes s o z .answer .result ≡ 0 → None causes
+  ended-none [] [] d e = tt
+  ended-none [] (r ∷ reasons) d e = absurd d
+  ended-none (c ∷ causes) [] d e = absurd d
+  ended-none (c ∷ causes) (r ∷ reasons) d e = by (c .applies) refl (λ f. ended-none causes reasons (d .1) f)
+    where
+      by : (t : Bool) → c .applies ≡ t → (inOrder causes s o z .answer .result ≡ 0 → None causes) → (c .applies ≡ false) × None causes
+      by true t rest = absurd (d .0 .number (ap resultOf (sym (d .0 .same)) ∙ rw t at e))
+      by false t rest = (t, rest (rw t at e))
+
+  pub ends : (causes : List Cause) (reasons : List Reason) → DecidesAll causes reasons → z .answer .result ≡ 0 → Ends reasons s o (inOrder causes s o z)
+  ends causes reasons d e = record {
+    refuses = refuses causes reasons d;
+    done = (
+      (λ f. none-wrong causes reasons d (ended-none causes reasons d f)),
+      λ n. ap (λ (x : Outcome). x .answer .result) (none-left causes s o z (no-reason causes reasons d n)) ∙ e,
+    );
+  }
