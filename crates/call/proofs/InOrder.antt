@@ -2,7 +2,7 @@
 use Prim.Native.Nat.{ℕ}
 use mathlib.Core.Path.{_≡_, refl, sym, ap, _∙_}
 use mathlib.Core.Logic.{_≢_}
-use mathlib.Core.Bool.{Bool, true, false, cond, true≢false}
+use mathlib.Core.Bool.{Bool, true, false, cond}
 use mathlib.Core.List.{List, [], _∷_}
 use Rattle.call.specs.declared.Ending.{Ending}
 use Rattle.call.specs.declared.Answer.{Answer}
@@ -37,16 +37,25 @@ in-order P (c ∷ causes) s o z refuses next = pick (c .applies) refl (λ more. 
     pick true e rest = refuses (c .why)
     pick false e rest = rest (λ n. next (e, n))
 
--- and of two boards with the same causes
-pub in-order-both : (R : Outcome → Outcome → Type 0) (causes : List Cause) (s t o : List ℕ) (z w : Outcome) → ((why : Ending) → R (refused why s o) (refused why t o)) → (None causes → R z w)
-    → R (inOrder causes s o z) (inOrder causes t o w)
-in-order-both R [] s t o z w refuses next = next tt
-in-order-both R (c ∷ causes) s t o z w refuses next = pick (c .applies) refl (λ more. in-order-both R causes s t o z w refuses more)
-  where
-    pick : (b : Bool) → c .applies ≡ b → ((None causes → R z w) → R (inOrder causes s o z) (inOrder causes t o w))
-        → R (cond b (refused (c .why) s o) (inOrder causes s o z)) (cond b (refused (c .why) t o) (inOrder causes t o w))
-    pick true e rest = refuses (c .why)
-    pick false e rest = rest (λ n. next (e, n))
+-- the same causes, as far as they are looked at
+abbrev pub SameCauses : List Cause → List Cause → Type 0
+SameCauses [] [] = Unit {0}
+SameCauses [] (d ∷ others) = ⊥
+SameCauses (c ∷ causes) [] = ⊥
+SameCauses (c ∷ causes) (d ∷ others) = (c ≡ d) × (c .applies ≡ false → SameCauses causes others)
+
+-- the same of two boards
+module _ (R : Outcome → Outcome → Type 0) (s t o : List ℕ) (z w : Outcome) (refuses : (why : Ending) → R (refused why s o) (refused why t o)) where
+  pub in-order-both : (causes others : List Cause) → SameCauses causes others → (None causes → R z w) → R (inOrder causes s o z) (inOrder others t o w)
+  in-order-both [] [] same next = next tt
+  in-order-both [] (d ∷ others) same next = absurd same
+  in-order-both (c ∷ causes) [] same next = absurd same
+  in-order-both (c ∷ causes) (d ∷ others) same next = rw (← (same .0)) (pick (c .applies) refl (λ h more. in-order-both causes others (same .1 h) more))
+    where
+      pick : (b : Bool) → c .applies ≡ b → (c .applies ≡ false → (None causes → R z w) → R (inOrder causes s o z) (inOrder others t o w))
+          → R (cond b (refused (c .why) s o) (inOrder causes s o z)) (cond b (refused (c .why) t o) (inOrder others t o w))
+      pick true e rest = refuses (c .why)
+      pick false e rest = rest e (λ n. next (e, n))
 
 -- ---- reasons, each decided by the test of its cause
 

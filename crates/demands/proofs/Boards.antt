@@ -12,9 +12,11 @@ use Rattle.wire.proofs.SerialLaws.{serial-steady}
 use Rattle.record.specs.Record.{Settings}
 use Rattle.record.specs.Layout.{atFlags, bytesOf, recordOf}
 use Rattle.record.specs.Births.{factory}
-use Rattle.board.specs.declared.Ending.the-variants.{Done, BadRecord}
-use Rattle.board.specs.Calls.{Outcome, refused, bytesCall}
-use Rattle.board.proofs.Exported.{allowed-is}
+use Rattle.call.specs.declared.Ending.the-variants.{Done, BadRecord}
+use Rattle.call.specs.Outcome.{Outcome, refused}
+use Rattle.call.proofs.InOrder.{allowed-is}
+use Rattle.board.specs.Calls.{bytesCall}
+use Rattle.demands.specs.Calls.{Receive}
 use Rattle.demands.specs.Examples.{opening}
 use Rattle.demands.specs.Boards.{Board, Frame, RefusesAll, SaysDone, DoesNothing, FirstOnly, InventsCount, ShutOut, WrongShutOut, KindsExist}
 use Rattle.demands.proofs.Ending.{ends-properly}
@@ -56,7 +58,7 @@ no-inventor h =
     let s = h .0 in
     let input = h .1 in
     let o = h .2 in
-    let served = ends-properly .bytes s input o .done .0 (h .3) in
+    let served = ends-properly .ends (record { name = Receive; lent = record { input = input; output = o } }) s .done .0 (h .3) in
     h .4 (ap (λ (z : Outcome). z .answer .skipped) (answers-as-listed .in-turn .call s input o served))
 
 pub wrong-shut-out : WrongShutOut

@@ -31,7 +31,10 @@ use Rattle.command.specs.Step.{stepOf, leftBy, settled, answer}
 use Rattle.command.proofs.Refused.{verdict-is, verdict, step-is, passed, takes-effect, refused-silent}
 use Rattle.hunt.specs.Hunt.{huntOf, recordAfter}
 use Rattle.demands.specs.Carried.{number, Legal, Carried, BeforeReading, announced, SixLines, InTurn, AnswersAsListed}
-use Rattle.demands.proofs.Ending.{factory-done, power-on-done, bytes-done, samples-done}
+use Rattle.demands.proofs.FactoryLaws.{factory-done}
+use Rattle.demands.proofs.PowerOnLaws.{power-on-done}
+use Rattle.demands.proofs.BytesLaws.{bytes-done}
+use Rattle.demands.proofs.SamplesLaws.{samples-done}
 
 module _ (r : Record) (f : List ℕ) where
   -- a verdict that stands, and what it makes of the frame

@@ -10,13 +10,16 @@ use lib.Dec.{ltb}
 use borrow.Author.Tests.{ltb-true, ltb-false}
 use Rattle.wire.specs.Numbers.{Bytes, wordAt, bytes4, bytesAt}
 use Rattle.record.specs.Record.{Record, withCode}
-use Rattle.record.specs.Layout.{atCode, bytesOf, recordOf}
-use Rattle.record.specs.Form.{InRange, wellFormed}
+use Rattle.record.specs.Layout.{recordSize, atCode, bytesOf, recordOf}
+use Rattle.record.specs.Form.{InRange, wellFormed, formBy, formOf}
 use Rattle.record.proofs.Parts.{word-lt, word-at, part-at}
 use Rattle.record.proofs.Lens.{long}
 use Rattle.record.proofs.RoundTrip.{read-back, well-formed, in-range, write-back}
 use Rattle.record.proofs.Whole.{code-in}
-use Rattle.demands.specs.Secrecy.{SameButCode}
+use Rattle.call.specs.declared.Ending.the-variants.{BadRecord}
+use Rattle.call.specs.Outcome.{done, cause, bad}
+use Rattle.board.proofs.Ends.{form-good, good-long}
+use Rattle.demands.specs.Premise.{SameButCode, Alike}
 
 -- ---- bytes of a record and of the same with another code
 
@@ -54,7 +57,7 @@ same-sym s t h = record { long = sym (h .long); before = λ i l. sym (h .before 
 -- ---- one of them well formed
 
 module _ (s t : List ℕ) (bs : Bytes s) (bt : Bytes t) (same : SameButCode s t) (w : wellFormed s ≡ true) where
-  abbrev code-of : ℕ
+  abbrev pub code-of : ℕ
   code-of = wordAt t atCode
 
   abbrev swapped : Record
@@ -93,6 +96,10 @@ module _ (s t : List ℕ) (bs : Bytes s) (bt : Bytes t) (same : SameButCode s t)
   pub other-record : recordOf t ≡ withCode (recordOf s) code-of
   other-record = ap recordOf other-bytes ∙ read-back swapped swapped-in
 
+  pub own-code : recordOf t ≡ withCode (recordOf s) (recordOf t .code)
+  unfolding withCode
+  own-code = other-record ∙ ap (withCode (recordOf s)) (sym (ap (λ (r : Record). r .code) other-record))
+
   other-well : wellFormed t ≡ true
   other-well = ap wellFormed other-bytes ∙ well-formed swapped swapped-in
 
@@ -104,3 +111,14 @@ well-same s t bs bt same = by (wellFormed s) (wellFormed t) refl refl
     by true b e f = e ∙ sym (other-well s t bs bt same e)
     by false true e f = other-well t s bt bs (same-sym s t same) f ∙ sym f
     by false false e f = e ∙ sym f
+
+pub same-form : (s t : List ℕ) → Bytes s → Bytes t → SameButCode s t → cause (bad (formOf s)) BadRecord ≡ cause (bad (formOf t)) BadRecord
+same-form s t bs bt same = ap (λ (b : Bool). cause (bad (formBy b)) BadRecord) (well-same s t bs bt same)
+
+pub well-size : (s : List ℕ) → wellFormed s ≡ true → length s ≡ recordSize
+well-size s w = good-long s (form-good s w)
+
+-- ---- what is left on both
+
+pub done-alike : (r : Record) (k : ℕ) (out : List ℕ) (n : ℕ) (o : List ℕ) → Alike (done r out n o) (done (withCode r k) out n o)
+done-alike r k out n o = (refl, refl, code-only r k)

@@ -2,7 +2,7 @@
 use Prim.Native.Nat.{ℕ, _+_, _*_, _%_, _≤_, _<_}
 use mathlib.Core.Path.{_≡_}
 use mathlib.Core.Logic.{_↔_, _≢_}
-use mathlib.Core.Bool.{true, false, cond}
+use mathlib.Core.Bool.{true, false}
 use mathlib.Core.List.{List, [], _∷_, _++_}
 use lib.ListN.{length, getD, take, drop, replicate}
 use Rattle.wire.specs.Frames.{Piece, Whole, Broken, stop, skipOne, carryOut, tearOne, cut}
@@ -12,7 +12,7 @@ use Rattle.wire.specs.Run.{runs}
 use Rattle.wire.specs.declared.Range.{Range}
 use Rattle.wire.specs.declared.Range.the-variants.{Fits, Big, Small}
 use Rattle.record.specs.Record.{Record, withTries, withPending}
-use Rattle.record.specs.Layout.{recordSize, channels, recordOf}
+use Rattle.record.specs.Layout.{recordSize, recordOf}
 use Rattle.record.specs.Form.{InRange}
 use Rattle.record.specs.Births.{factory, poweredOn}
 use Rattle.command.specs.declared.Command.{Command}
@@ -27,9 +27,10 @@ use Rattle.command.specs.Tables.{listedOf, countedOf, needOf, rangeOf}
 use Rattle.command.specs.Judge.{accessOf}
 use Rattle.command.specs.Effects.{effectOf, dataOf}
 use Rattle.command.specs.Step.{stepOf, answer}
-use Rattle.record.specs.Reading.{readingOf}
-use Rattle.board.specs.Calls.{done, factoryCall, powerOnCall, bytesCall, measured, samplesCall}
-use Rattle.demands.specs.Ending.{Malformed, Served, Sampled}
+use Rattle.call.specs.Outcome.{done}
+use Rattle.call.specs.Ending.{NoReason}
+use Rattle.board.specs.Calls.{factoryCall, powerOnCall, bytesCall, read, samplesCall}
+use Rattle.demands.specs.Calls.{Malformed, bytesReasons, samplesReasons}
 
 -- ---- one frame f, on a board with the record r
 
@@ -113,7 +114,7 @@ pub record InTurn : Type 0 where
   -- A reply is AA, 5n or 6n, status, n bytes, 85.
   pub reply : (a : Reply) (said : List Reply) → written (a ∷ said) ≡ 0xAA ∷ (a .kind * 16 + length (a .body)) ∷ a .status ∷ (a .body ++ 0x85 ∷ []) ++ written said
   -- A bytes call that nothing stops cuts pending bytes and input into pieces, answers them in turn, and counts what the cut skipped.
-  pub call : (s input o : List ℕ) → Served s input o
+  pub call : (s input o : List ℕ) → NoReason (bytesReasons s input o)
       → let c = cut serial (recordOf s .pending ++ input) in
       let run = runs answer (recordOf s) (c .pieces) in
       bytesCall s input o ≡ done (withPending (run .state) (c .waiting)) (written (run .said)) (c .skipped) o
@@ -126,8 +127,7 @@ pub record OtherCalls : Type 0 where
   -- Power-on keeps the code, the settings and the model, and nothing else.
   pub switched-on : (s : List ℕ) → ¬ Malformed s → powerOnCall s ≡ done (poweredOn (recordOf s)) [] 0 []
   -- A reading goes into the pairs and, with sending on, out as a measuring frame.
-  pub reading : (s sample o : List ℕ) → Sampled s sample o
-      → samplesCall s sample o ≡ done (readingOf (recordOf s) sample) (cond (recordOf s .flags .sending) (measured channels sample) []) 0 o
+  pub reading : (s sample o : List ℕ) → NoReason (samplesReasons s sample o) → samplesCall s sample o ≡ read (recordOf s) sample o
 
 -- The board answers as the tables say.
 pub record AnswersAsListed : Type 0 where

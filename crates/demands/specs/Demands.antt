@@ -5,7 +5,8 @@ use Rattle.demands.specs.Ending.{EndsProperly}
 use Rattle.demands.specs.Carried.{AnswersAsListed}
 use Rattle.demands.specs.Boards.{WrongShutOut, KindsExist}
 use Rattle.demands.specs.Examples.{starred, Holds}
-use Rattle.demands.specs.Secrecy.{Compared, OneCall, NothingTold, NothingToldUsedUp, PremiseMet, PremiseNeeded}
+use Rattle.demands.specs.Premise.{Compared}
+use Rattle.demands.specs.Secrecy.{OneCall, NothingTold, NothingToldUsedUp, PremiseMet, PremiseNeeded}
 
 pub record Demands : Type 1 where
   -- the contracts as they are exported, and that each allows one outcome

@@ -8,7 +8,8 @@ use lib.IntN.{ℤ, pos, negsuc}
 use Rattle.wire.specs.Numbers.{signed16}
 use Rattle.record.specs.Layout.{bytesOf, recordOf}
 use Rattle.record.specs.Births.{factory}
-use Rattle.board.specs.Calls.{Outcome, bytesCall}
+use Rattle.call.specs.Outcome.{Outcome}
+use Rattle.board.specs.Calls.{bytesCall}
 
 -- what a row says of the board afterwards
 pub data Fact : Type 0 where

@@ -1,3 +1,5 @@
+pub mod Premise
+pub mod Calls
 pub mod Examples
 pub mod Unique
 pub mod Ending

@@ -2,8 +2,6 @@ use mathlib.Core.Path.{refl}
 use borrow.Author.Needs.{needs}
 use Rattle.call.proofs.ended.Statement.{statement}
 use Rattle.call.proofs.ended.Tie as tie
-use Rattle.call.proofs.ended.Reads as reads
-use Rattle.call.proofs.ended.Lts as lts
 
 enum-told : tie.Need-enum-told
 enum-told c = search needs

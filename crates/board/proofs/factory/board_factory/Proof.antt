@@ -2,9 +2,6 @@ use Rattle.board.proofs.Ends.{factory-refuses, factory-ends}
 use borrow.Author.Needs.{needs}
 use Rattle.board.proofs.factory.board_factory.Statement.{statement}
 use Rattle.board.proofs.factory.board_factory.Tie as tie
-use Rattle.board.proofs.factory.board_factory.Reads as reads
-use Rattle.board.proofs.factory.board_factory.Lts as lts
-use Rattle.parts.proofs.fresh.write_factory.Reads as write-factory-reads
 
 ended-requires : tie.Need-ended-requires
 ended-requires c κs = search needs

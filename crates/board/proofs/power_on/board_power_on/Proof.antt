@@ -4,10 +4,6 @@ use mathlib.Core.Path.{sym, _∙_}
 use borrow.Author.Needs.{needs}
 use Rattle.board.proofs.power_on.board_power_on.Statement.{statement}
 use Rattle.board.proofs.power_on.board_power_on.Tie as tie
-use Rattle.board.proofs.power_on.board_power_on.Reads as reads
-use Rattle.board.proofs.power_on.board_power_on.Lts as lts
-use Rattle.form.proofs.form_of.Reads as form-of-reads
-use Rattle.parts.proofs.fresh.switch_on.Reads as switch-on-reads
 
 form-of-requires : tie.Need-form-of-requires
 form-of-requires c κs = search needs

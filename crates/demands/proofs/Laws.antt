@@ -1,0 +1,97 @@
+-- What a call has to bring so that the demands hold for it, and the demands from that.
+use Prim.Native.Nat.{ℕ, _≤_}
+use mathlib.Core.Path.{_≡_, refl, sym, _∙_}
+use mathlib.Core.Bool.{false}
+use mathlib.Core.List.{List}
+use native.Mathlib.Omega.{arith}
+use lib.ListN.{length, getD}
+use Rattle.wire.specs.Numbers.{Bytes}
+use Rattle.wire.proofs.PutLaws.{length-put}
+use Rattle.record.specs.Record.{Record}
+use Rattle.record.specs.Layout.{recordSize, atTries, bytesOf, recordOf}
+use Rattle.record.specs.Form.{InRange}
+use Rattle.record.proofs.Lens.{long, get-tries}
+use Rattle.record.proofs.RoundTrip.{well-formed}
+use Rattle.record.proofs.Whole.{bytes-bytes}
+use Rattle.call.specs.declared.Ending.{Ending}
+use Rattle.call.specs.Outcome.{Outcome, refused, done, Cause, inOrder}
+use Rattle.call.specs.Ending.{NoReason, Ends}
+use Rattle.call.proofs.InOrder.{None, SameCauses, DecidesAll, in-order, in-order-both, ends, none-left, no-reason}
+use Rattle.demands.specs.Premise.{SameButCode, Alike}
+use Rattle.demands.specs.Calls.{Call}
+use Rattle.demands.specs.Ending.{Leaving}
+use Rattle.demands.proofs.Tests.{not-bad}
+
+pub record Laws (c : Call) : Type 1 where
+  -- its causes in their order, and what is left when none applies: a record, bytes written, bytes skipped
+  pub causes : c .Lent → List ℕ → List Cause
+  pub after : c .Lent → List ℕ → Record
+  pub out : c .Lent → List ℕ → List ℕ
+  pub skips : c .Lent → List ℕ → ℕ
+  pub chain : (l : c .Lent) (s : List ℕ) → c .outcome l s ≡ inOrder (causes l s) s (c .output l) (done (after l s) (out l s) (skips l s) (c .output l))
+  -- each cause decides its reason
+  pub decides : (l : c .Lent) (s : List ℕ) → DecidesAll (causes l s) (c .reasons l s)
+  -- if none applies, the record has its size, is left in range, and the output has room
+  pub size : (l : c .Lent) (s : List ℕ) → None (causes l s) → length s ≡ recordSize
+  pub keeps : (l : c .Lent) (s : List ℕ) → Bytes s → c .Given l → None (causes l s) → InRange (after l s)
+  pub room : (l : c .Lent) (s : List ℕ) → Bytes s → c .Given l → None (causes l s) → length (out l s) ≤ length (c .output l)
+  -- another code makes no difference to the causes, nor, where no command carries either, to what is left
+  pub same : (l : c .Lent) (s t : List ℕ) → Bytes s → Bytes t → SameButCode s t → SameCauses (causes l s) (causes l t)
+  pub alike : (l : c .Lent) (s t : List ℕ) → Bytes s → Bytes t → SameButCode s t → None (causes l s) → c .Hushed l s t
+      → Alike (done (after l s) (out l s) (skips l s) (c .output l)) (done (after l t) (out l t) (skips l t) (c .output l))
+  -- with three wrong tries used nothing is compared, and they stay used
+  pub hushed : c .resets ≡ false → (l : c .Lent) (s t : List ℕ) → 3 ≤ recordOf s .tries → c .Hushed l s t
+  pub tries : c .resets ≡ false → (l : c .Lent) (s : List ℕ) → 3 ≤ recordOf s .tries → 3 ≤ after l s .tries
+
+-- the tries of a record, in its bytes
+tries-at : (s : List ℕ) → recordOf s .tries ≡ getD s atTries 0
+unfolding recordOf
+tries-at s = refl
+
+module _ (c : Call) (w : Laws c) (l : c .Lent) (s : List ℕ) where
+  abbrev o : List ℕ
+  o = c .output l
+
+  abbrev finished : Outcome
+  finished = done (w .after l s) (w .out l s) (w .skips l s) o
+
+  pub ends-by : Ends (c .reasons l s) s o (c .outcome l s)
+  ends-by = rw (w .chain l s) (ends s o finished (w .causes l s) (c .reasons l s) (w .decides l s) refl)
+
+  -- what is left when nothing is wrong
+  pub left-by : NoReason (c .reasons l s) → c .outcome l s ≡ finished
+  left-by n = w .chain l s ∙ none-left (w .causes l s) s o finished (no-reason (w .causes l s) (c .reasons l s) (w .decides l s) n)
+
+  pub leaves-by : Bytes s → c .Given l → Leaving s o (c .outcome l s)
+  leaves-by b g = rw (w .chain l s) (in-order (Leaving s o) (w .causes l s) s o finished stays left)
+    where
+      stays : (why : Ending) → Leaving s o (refused why s o)
+      stays why = record { record-length = refl; output-length = refl; well-formed = λ h. h }
+
+      left : None (w .causes l s) → Leaving s o finished
+      left n = record {
+        record-length = long (w .after l s) ∙ sym (w .size l s n);
+        output-length = length-put o 0 (w .out l s) (omega (arith, w .room l s b g n));
+        well-formed = λ h. not-bad (bytesOf (w .after l s)) (well-formed (w .after l s) (w .keeps l s b g n));
+      }
+
+  pub bytes-by : Bytes s → c .Given l → Bytes (c .outcome l s .kept)
+  bytes-by b g = rw (w .chain l s) (in-order (λ z. Bytes (z .kept)) (w .causes l s) s o finished (λ why. b) (λ n. bytes-bytes (w .after l s) (w .keeps l s b g n)))
+
+  pub alike-by : (t : List ℕ) → Bytes s → Bytes t → SameButCode s t → c .Hushed l s t → Alike (c .outcome l s) (c .outcome l t)
+  alike-by t bs bt same h =
+      rw (w .chain l s, w .chain l t)
+      (in-order-both Alike s t o finished (done (w .after l t) (w .out l t) (w .skips l t) o) (λ why. (refl, refl, same)) (w .causes l s) (w .causes l t) (w .same l s t bs bt same)
+      (λ n. w .alike l s t bs bt same n h))
+
+  module _ (keeps-tries : c .resets ≡ false) (used : 3 ≤ getD s atTries 0) where
+    three : 3 ≤ recordOf s .tries
+    three = rw (tries-at s) used
+
+    pub hushed-by : (t : List ℕ) → c .Hushed l s t
+    hushed-by t = w .hushed keeps-tries l s t three
+
+    pub used-by : 3 ≤ getD (c .outcome l s .kept) atTries 0
+    used-by =
+        rw (w .chain l s)
+        (in-order (λ z. 3 ≤ getD (z .kept) atTries 0) (w .causes l s) s o finished (λ why. used) (λ n. rw (get-tries (w .after l s)) (w .tries keeps-tries l s three)))
