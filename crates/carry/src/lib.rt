@@ -1,4 +1,4 @@
-// One whole frame carried out on the record in its bytes: judged, carried out, answered.
+// One command carried out on the record in its bytes: judged, carried out, answered.
 ghost use mathlib.Core.Path.{_≡_};
 ghost use mathlib.Core.Bool.{true};
 ghost use Prim.Native.Nat.{_+_, _≤_};
@@ -15,15 +15,12 @@ use judge::judge;
 use table::status_of;
 use wire::reply::close_reply;
 
-// Judges a frame and does to the record what follows from that.
-pub fn act(rec: &mut [u8], frame: &[u8]) -> Verdict
+// Judges a command and does to the record what follows from that.
+pub fn act(rec: &mut [u8], head: u8, number: u8, p: &[u8]) -> Verdict
     requires { ⌜ Sound (now rec) ⌝ }
-    requires { ⌜ 4 ≤ length (now frame) ⌝ }
-    ensures { λ v. ⌜ Acts (recordOf (now (rec .entry))) (now (frame .entry)) v (now (rec .exit)) ⌝ }
+    ensures { λ v. ⌜ Acts (recordOf (now (rec .entry))) head number (now (p .entry)) v (now (rec .exit)) ⌝ }
 {
-    let end = frame.len() - 1;
-    let p = &frame[3..end];
-    let verdict = judge(rec, frame[1], frame[2], p);
+    let verdict = judge(rec, head, number, p);
     match verdict {
         Verdict::Do(c) => {
             carry_out(rec, c, p);
@@ -35,7 +32,7 @@ pub fn act(rec: &mut [u8], frame: &[u8]) -> Verdict
     verdict
 }
 
-// The same, with the reply written at a place; returns the place behind it.
+// Carries out a whole frame and writes the reply at a place; returns the place behind it.
 pub fn carry(rec: &mut [u8], frame: &[u8], out: &mut [u8], at: usize) -> usize
     requires { ⌜ Sound (now rec) ⌝ }
     requires { ⌜ (4 ≤ length (now frame)) × (isHead (headOf (now frame)) ≡ true) ⌝ }
@@ -44,7 +41,7 @@ pub fn carry(rec: &mut [u8], frame: &[u8], out: &mut [u8], at: usize) -> usize
 {
     let end = frame.len() - 1;
     let p = &frame[3..end];
-    let verdict = act(rec, frame);
+    let verdict = act(rec, frame[1], frame[2], p);
     match verdict {
         Verdict::Do(c) => {
             let n = put_data(rec, c, p, out, at + 3);

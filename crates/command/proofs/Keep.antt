@@ -30,9 +30,9 @@ use Rattle.command.specs.declared.Verdict.{Verdict}
 use Rattle.command.specs.declared.Verdict.the-variants.{Do, Refuse}
 use Rattle.command.specs.Tables.{spanOf, countedOf, countedBy, needOf, rangeOf, inputChannel}
 use Rattle.command.specs.Effects.{effectOf, dataOf, closedModel}
-use Rattle.command.specs.Judge.{accessOf}
-use Rattle.command.specs.Step.{leftBy, settled, stepOf}
-use Rattle.command.proofs.Refused.{verdict, step-is, Checks, checks}
+use Rattle.command.specs.Judge.{accessOf, verdictOf}
+use Rattle.command.specs.Step.{leftBy, settled, stepBy, stepOf}
+use Rattle.command.proofs.Refused.{verdict, by-is, step-by, step-is, Checks, checks}
 use Rattle.command.proofs.Blind.{blind}
 
 -- ---- a command carried out
@@ -139,12 +139,15 @@ left-in TooSmall r head number p h i = i
 params-bytes : (f : List ℕ) → Bytes f → Bytes (paramsOf f)
 params-bytes f b = bytes-take (length f - 4) (drop 3 f) (bytes-drop 3 f b)
 
-pub step-in : (r : Record) (f : List ℕ) → Bytes f → InRange r → InRange (stepOf r f .after)
-step-in r f b i = rw (step-is r f) (go (verdict r f) (checks r (headOf f) (numberOf f) (paramsOf f)))
+pub by-in : (r : Record) (head number : ℕ) (p : List ℕ) → Bytes p → InRange r → InRange (stepBy r head number p .after)
+by-in r head number p b i = rw (by-is r head number p) (go (verdictOf r head number p) (checks r head number p))
   where
-    go : (v : Verdict) → Checks r (headOf f) (numberOf f) (paramsOf f) v → InRange (settled r (headOf f) (paramsOf f) v .after)
-    go (Do c) h = effect-in c r (paramsOf f) (h .1) (h .3) (params-bytes f b) i
-    go (Refuse why) h = left-in why r (headOf f) (numberOf f) (paramsOf f) h i
+    go : (v : Verdict) → Checks r head number p v → InRange (settled r head p v .after)
+    go (Do c) h = effect-in c r p (h .1) (h .3) b i
+    go (Refuse why) h = left-in why r head number p h i
+
+pub step-in : (r : Record) (f : List ℕ) → Bytes f → InRange r → InRange (stepOf r f .after)
+step-in r f b i = rw (step-by r f) (by-in r (headOf f) (numberOf f) (paramsOf f) (params-bytes f b) i)
 
 pub step-pending : (r : Record) (f : List ℕ) → stepOf r f .after .pending ≡ r .pending
 step-pending r f = rw (step-is r f) (blind r (r .code) (headOf f) (paramsOf f) (verdict r f) .2)

@@ -22,7 +22,7 @@ use Rattle.command.specs.declared.Verdict.the-variants.{Do, Refuse}
 use Rattle.command.specs.Tables.{listedOf, countedOf, needOf, rangeOf}
 use Rattle.command.specs.Judge.{statusOf, accessOf, byRange, byAccess, byCount, byNumber, verdictOf}
 use Rattle.command.specs.Effects.{effectOf, dataOf}
-use Rattle.command.specs.Step.{leftBy, settled, stepOf}
+use Rattle.command.specs.Step.{leftBy, settled, stepBy, stepOf}
 
 pub verdict-is : (r : Record) (head number : ℕ) (p : List ℕ) → verdictOf r head number p ≡ byNumber r p (listedOf head number)
 unfolding verdictOf
@@ -31,6 +31,14 @@ verdict-is r head number p = refl
 -- the verdict on a whole frame
 abbrev pub verdict : Record → List ℕ → Verdict
 verdict r f = verdictOf r (headOf f) (numberOf f) (paramsOf f)
+
+pub by-is : (r : Record) (head number : ℕ) (p : List ℕ) → stepBy r head number p ≡ settled r head p (verdictOf r head number p)
+unfolding stepBy
+by-is r head number p = refl
+
+pub step-by : (r : Record) (f : List ℕ) → stepOf r f ≡ stepBy r (headOf f) (numberOf f) (paramsOf f)
+unfolding stepOf
+step-by r f = refl
 
 pub step-is : (r : Record) (f : List ℕ) → stepOf r f ≡ settled r (headOf f) (paramsOf f) (verdict r f)
 unfolding stepOf

@@ -1,4 +1,4 @@
--- One whole frame carried out: the record that it leaves, and the reply.
+-- One command carried out: the record that it leaves, and the reply.
 use Prim.Native.Nat.{ℕ, _+_}
 use mathlib.Core.List.{List, [], _∷_}
 use Rattle.wire.specs.Frames.{Piece, Whole, Broken}
@@ -33,9 +33,15 @@ abbrev pub settled : Record → ℕ → List ℕ → Verdict → Step
 settled r head p (Do c) = record { after = effectOf c r p; reply = record { kind = kindOf head; status = 0x00; body = dataOf c r p } }
 settled r head p (Refuse why) = record { after = leftBy why r; reply = record { kind = kindOf head; status = statusOf why; body = [] } }
 
-unfoldable pub stepOf : Record → List ℕ → Step
+-- a number under a head, with its parameters
+unfoldable pub stepBy : Record → ℕ → ℕ → List ℕ → Step
 unfolding verdictOf effectOf dataOf leftBy
-stepOf r f = settled r (headOf f) (paramsOf f) (verdictOf r (headOf f) (numberOf f) (paramsOf f))
+stepBy r head number p = settled r head p (verdictOf r head number p)
+
+-- a whole frame
+unfoldable pub stepOf : Record → List ℕ → Step
+unfolding stepBy
+stepOf r f = stepBy r (headOf f) (numberOf f) (paramsOf f)
 
 -- what the board does with a piece of the stream; a broken head is passed without a reply
 abbrev pub answer : Record → Piece → Run Record Reply

@@ -1,6 +1,6 @@
 use native.Mathlib.Omega.{arith}
-use Rattle.carry.proofs.Acted.{may-answer, carries-do, carries-refuse}
 use Rattle.record.proofs.PlaceLaws.{holds-sound}
+use Rattle.carry.proofs.Acted.{may-answer, carries-do, carries-refuse}
 use borrow.Author.Needs.{needs}
 use Rattle.carry.proofs.carry.Statement.{statement}
 use Rattle.carry.proofs.carry.Tie as tie
@@ -17,6 +17,12 @@ part-p-start c = search needs
 part-p-end : tie.Need-part-p-end
 part-p-end c = search needs
 
+shared-slice-read-act : tie.Need-shared-slice-read-act
+shared-slice-read-act c = search needs
+
+shared-slice-read-act-2 : tie.Need-shared-slice-read-act-2
+shared-slice-read-act-2 c = search needs
+
 act-requires : tie.Need-act-requires
 act-requires c κs = search needs
 
@@ -28,8 +34,10 @@ add-put-data c = search needs
 
 put-data-requires : tie.Need-put-data-requires
 put-data-requires c κs =
-    let may = may-answer _ (c .before .before .before .before .before .before .before .before .before .before .before .before .before .args .frame .now) (c .before .before .before .before .before .before .before .before .before .before .before .before .before .args .out .now) (c .before .before .before .before .before .before .before .before .before .before .before .before .before .args .at) _ _ (c .before .before .before .before .before .before .before .act .ensures) (c .before .before .before .before .before .before .before .before .before .before .before .before .before .pre .1 .1) _ (c .before .before .before .verdict .given .1) in
-    (holds-sound _ _ (c .before .before .before .before .before .before .before .act .ensures .held), (may .0, (may .1, omega (arith, c .before .before .before .before .before .before .before .before .before .before .before .before .before .pre .1 .1))))
+    let z = c .before .before .before .before .before .before .before .before .before .before .before .before .before .before .before in
+    let a = c .before .before .before .before .before .before .before .act .ensures in
+    let may = may-answer _ (z .args .frame .now) (z .args .out .now) (z .args .at) _ _ a (z .pre .1 .1) _ (c .before .before .before .verdict .given .1) in
+    (holds-sound _ _ (a .held), (may .0, (may .1, omega (arith, z .pre .1 .1))))
 
 shared-slice-read-close-reply : tie.Need-shared-slice-read-close-reply
 shared-slice-read-close-reply c = search needs
@@ -56,7 +64,9 @@ same-length-2 : tie.Need-same-length-2
 same-length-2 c = search needs
 
 returns : tie.Need-returns
-returns c = carries-do _ (c .before .before .before .before .before .before .before .before .before .before .before .before .before .before .before .before .before .before .before .before .before .args .frame .now) (c .before .before .before .before .before .before .before .before .before .before .before .before .before .before .before .before .before .before .before .before .before .args .out .now) (c .before .before .before .before .before .before .before .before .before .before .before .before .before .before .before .before .before .before .before .before .before .args .at) _ _ (c .before .before .before .before .before .before .before .before .before .before .before .before .before .before .before .act .ensures) (c .before .before .before .before .before .before .before .before .before .before .before .before .before .before .before .before .before .before .before .before .before .pre .1 .1) _ (c .before .before .before .before .before .before .before .before .before .before .before .verdict .given .1) _ _ _ _ (c .before .before .before .before .before .before .before .put-data .ensures) (c .before .before .close-reply .ensures .0) (c .before .before .close-reply .ensures .1)
+returns c =
+    let z = c .before .before .before .before .before .before .before .before .before .before .before .before .before .before .before .before .before .before .before .before .before .before .before in
+    carries-do _ (z .args .frame .now) (z .args .out .now) (z .args .at) _ _ (c .before .before .before .before .before .before .before .before .before .before .before .before .before .before .before .act .ensures) (z .pre .1 .1) _ (c .before .before .before .before .before .before .before .before .before .before .before .verdict .given .1) _ _ _ _ (c .before .before .before .before .before .before .before .put-data .ensures) (c .before .before .close-reply .ensures .0) (c .before .before .close-reply .ensures .1)
 
 same-length-3 : tie.Need-same-length-3
 same-length-3 c = search needs
@@ -65,7 +75,9 @@ same-length-4 : tie.Need-same-length-4
 same-length-4 c = search needs
 
 returns-2 : tie.Need-returns-2
-returns-2 c = carries-refuse _ (c .before .before .before .before .before .before .before .before .before .before .before .before .before .before .before .before .before .args .frame .now) (c .before .before .before .before .before .before .before .before .before .before .before .before .before .before .before .before .before .args .out .now) (c .before .before .before .before .before .before .before .before .before .before .before .before .before .before .before .before .before .args .at) _ _ (c .before .before .before .before .before .before .before .before .before .before .before .act .ensures) (c .before .before .before .before .before .before .before .before .before .before .before .before .before .before .before .before .before .pre .1 .1) _ (c .before .before .before .before .before .before .before .verdict2 .given .1) _ _ _ (c .before .before .before .status-of .ensures) (c .before .before .close-reply2 .ensures .0) (c .before .before .close-reply2 .ensures .1)
+returns-2 c =
+    let z = c .before .before .before .before .before .before .before .before .before .before .before .before .before .before .before .before .before .before .before in
+    carries-refuse _ (z .args .frame .now) (z .args .out .now) (z .args .at) _ _ (c .before .before .before .before .before .before .before .before .before .before .before .act .ensures) (z .pre .1 .1) _ (c .before .before .before .before .before .before .before .verdict2 .given .1) _ _ _ (c .before .before .before .status-of .ensures) (c .before .before .close-reply2 .ensures .0) (c .before .before .close-reply2 .ensures .1)
 
 pub carry-spec : {M : Type 1} → statement M
 carry-spec =
@@ -75,6 +87,8 @@ carry-spec =
     sub-p
     part-p-start
     part-p-end
+    shared-slice-read-act
+    shared-slice-read-act-2
     act-requires
     enum-known-verdict
     add-put-data
