@@ -199,5 +199,5 @@ rangeOf SetModel p = Fits
 rangeOf StopSending p = Fits
 rangeOf StartSending p = Fits
 rangeOf ReadFilter p = Fits
-rangeOf SetFilter p = filterRange (wordAt p 0)
+rangeOf SetFilter p = filterRange 64 (wordAt p 0)
 rangeOf ReadPair p = pairChannel (getD p 0 0)

@@ -54,11 +54,11 @@ pub fn carry_out(rec: &mut [u8], c: Command, p: &[u8])
         Command::Unlock => unlock(rec),
         Command::ReadLock => {}
         Command::ReadModel => {}
-        Command::SetModel => set_model(rec, p),
+        Command::SetModel => set_model(rec, 41, p),
         Command::StopSending => stop_sending(rec),
         Command::StartSending => start_sending(rec),
         Command::ReadFilter => {}
-        Command::SetFilter => set_filter(rec, p),
+        Command::SetFilter => set_filter(rec, 21, p),
         Command::ReadPair => {}
     }
 }

@@ -41,10 +41,10 @@ module _ (s : List ℕ) where
     pairAtFits at = pairFits reading (pairAt s at)
 
     pub pairs-is : (a b c d e f : Bool) → a ≡ pairAtFits 75 → b ≡ pairAtFits 83 → c ≡ pairAtFits 91 → d ≡ pairAtFits 99 → e ≡ pairAtFits 107 → f ≡ pairAtFits 115
-        → (((((a && b) && c) && d) && e) && f) ≡ allFine (several 6 8 pairAtFits 75)
+        → (((((a && b) && c) && d) && e) && f) ≡ allFine (several 6 8 (λ k. pairAtFits (75 + k)) 75 0)
     pairs-is a b c d e f ha hb hc hd he hf = rw (ha, hb, hc, hd, he, hf) (simp (and-assoc, and-true))
 
-    pub pairs-by : bitOf (getD s 3 0) 8 ≡ reading → allFine (several 6 8 pairAtFits 75) ≡ allFine (pairFields s)
+    pub pairs-by : bitOf (getD s 3 0) 8 ≡ reading → allFine (several 6 8 (λ k. pairAtFits (75 + k)) 75 0) ≡ allFine (pairFields s)
     pairs-by e = rw e refl
 
   -- a pair of two patterns, by the floats of finite ones

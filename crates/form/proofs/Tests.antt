@@ -67,7 +67,7 @@ pub fits-interval : (b : ℕ) → b < 256 → (eqb b 0 || (leb 4 b && leb b 59))
 unfolding agree
 fits-interval b h = agreed 256 (λ b. eqb b 0 || (leb 4 b && leb b 59)) (λ b. fits (intervalRange b)) refl b h
 
-pub fits-filter : (w : ℕ) → fits (filterRange w) ≡ ltb w 64
+pub fits-filter : (w : ℕ) → fits (filterRange 64 w) ≡ ltb w 64
 fits-filter w = go (ltb w 64)
   where
     go : (t : Bool) → fits (cond t Fits Big) ≡ t

@@ -218,7 +218,7 @@ fn pair_seen(s: &[u8], at: usize) -> bool
 
 fn pairs_none(s: &[u8]) -> bool
     requires { ⌜ length (now s) ≡ 123 ⌝ }
-    ensures { λ r. ⌜ r ≡ allFine (several 6 8 (λ at. pairFits false (pairAt (now (s .entry)) at)) 75) ⌝ }
+    ensures { λ r. ⌜ r ≡ allFine (several 6 8 (λ k. pairFits false (pairAt (now (s .entry)) (75 + k))) 75 0) ⌝ }
 {
     pair_none(s, 75)
         & pair_none(s, 83)
@@ -230,7 +230,7 @@ fn pairs_none(s: &[u8]) -> bool
 
 fn pairs_seen(s: &[u8]) -> bool
     requires { ⌜ length (now s) ≡ 123 ⌝ }
-    ensures { λ r. ⌜ r ≡ allFine (several 6 8 (λ at. pairFits true (pairAt (now (s .entry)) at)) 75) ⌝ }
+    ensures { λ r. ⌜ r ≡ allFine (several 6 8 (λ k. pairFits true (pairAt (now (s .entry)) (75 + k))) 75 0) ⌝ }
 {
     pair_seen(s, 75)
         & pair_seen(s, 83)

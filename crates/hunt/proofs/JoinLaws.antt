@@ -64,6 +64,10 @@ module _ (s l before : List ℕ) (start : ℕ) (p : Progress) (mid out : List �
   pub rests : (kept : List ℕ) → Turns mid kept (λ z. withPending z (take (length l - p .at) (drop (p .at) l))) → Rests (recordOf s) l before start p kept out
   rests kept t = record { mid = mid; hunts = h; turns = subst (λ (x : List ℕ). Turns mid kept (λ z. withPending z x)) (part-rest l (p .at)) t }
 
+-- what the store of the pending bytes asks for
+pub roomed : (n m : ℕ) → (n ≡ 123) × (m ≤ 18) → ((75 ≤ n) × (56 ≤ 255) × (18 ≤ 255)) × (m ≤ 18)
+roomed n m h = ((omega (arith, h .0), omega arith, omega arith), h .1)
+
 -- ---- the pending bytes in their place
 
 module _ (s : List ℕ) (sound : Sound s) where

@@ -98,7 +98,7 @@ fn hunt_rest(rec: &mut [u8], s: &[u8], out: &mut [u8], start: usize) -> Progress
     let len = s.len();
     let p = hunt_in(rec, s, len, out, start);
     let at = p.at;
-    set_pending(rec, &s[at..len]);
+    set_pending(rec, 56, 18, &s[at..len]);
     p
 }
 
@@ -115,7 +115,7 @@ pub fn serve(rec: &mut [u8], input: &[u8], out: &mut [u8]) -> Served
     let first = hunt_in(rec, &head[..total], held, out, 0);
     let at = first.at;
     if at < held {
-        set_pending(rec, &head[at..total]);
+        set_pending(rec, 56, 18, &head[at..total]);
         return Served {
             written: first.wrote,
             skipped: first.skipped,

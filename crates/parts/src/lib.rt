@@ -8,7 +8,8 @@ ghost use lib.Seq.{sets};
 ghost use Rattle.wire.specs.Numbers.{bytesAt};
 ghost use Rattle.record.specs.Record.{withName, withSettings, withModel, withPending};
 ghost use Rattle.record.specs.Limits.{beforeZero};
-ghost use Rattle.record.specs.Place.{Turns};
+ghost use Rattle.record.specs.Place.{Turns, TurnsAt, TurnsPending};
+ghost use Rattle.record.specs.Layout.{ModelPart};
 use form::first_zero;
 use wire::buffer::clear;
 use wire::buffer::put_in;
@@ -31,20 +32,22 @@ pub fn set_name(rec: &mut [u8], p: &[u8])
     put_part(rec, 26, 41, p);
 }
 
-pub fn set_model(rec: &mut [u8], p: &[u8])
-    requires { ⌜ length (now rec) ≡ 123 ⌝ }
+// At the place that the layout gives the model.
+pub fn set_model(rec: &mut [u8], at: usize, p: &[u8])
+    requires { ⌜ (at + 15 ≤ length (now rec)) × (at ≤ 255) ⌝ }
     requires { ⌜ length (now p) ≤ 15 ⌝ }
-    ensures { λ _. ⌜ Turns (now (rec .entry)) (now (rec .exit)) (λ r. withModel r (beforeZero (now (p .entry)))) ⌝ }
+    ensures { λ _. ⌜ TurnsAt ModelPart at (now (rec .entry)) (now (rec .exit)) (λ r. withModel r (beforeZero (now (p .entry)))) ⌝ }
 {
     let n = first_zero(p, 0, p.len());
-    put_part(rec, 41, 56, &p[0..n]);
+    put_part(rec, at, at + 15, &p[0..n]);
 }
 
-pub fn set_pending(rec: &mut [u8], p: &[u8])
-    requires { ⌜ length (now rec) ≡ 123 ⌝ }
-    requires { ⌜ length (now p) ≤ 18 ⌝ }
-    ensures { λ _. ⌜ Turns (now (rec .entry)) (now (rec .exit)) (λ r. withPending r (now (p .entry))) ⌝ }
+// At the place and in the room that the layout gives them.
+pub fn set_pending(rec: &mut [u8], at: usize, room: usize, p: &[u8])
+    requires { ⌜ (at + 1 + room ≤ length (now rec)) × (at ≤ 255) × (room ≤ 255) ⌝ }
+    requires { ⌜ length (now p) ≤ room ⌝ }
+    ensures { λ _. ⌜ TurnsPending at room (now (rec .entry)) (now (rec .exit)) (λ r. withPending r (now (p .entry))) ⌝ }
 {
-    rec[56] = p.len() as u8;
-    put_part(rec, 57, 75, p);
+    rec[at] = p.len() as u8;
+    put_part(rec, at + 1, at + 1 + room, p);
 }

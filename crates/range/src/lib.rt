@@ -69,7 +69,7 @@ fn interval_range(b: u8) -> Range
 }
 
 fn filter_range(w: u32) -> Range
-    ensures { λ r. ⌜ r ≡ filterRange w ⌝ }
+    ensures { λ r. ⌜ r ≡ filterRange 64 w ⌝ }
 {
     if w < 64 {
         return Range::Fits;

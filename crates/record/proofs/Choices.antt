@@ -1,7 +1,7 @@
 -- Laws of bytes with four bits in use, each by one test that is computed over all choices.
-use Prim.Native.Nat.{ℕ, zero, suc, _-_, _^_, _≤_, _<_}
+use Prim.Native.Nat.{ℕ, zero, suc, _-_, _%_, _^_, _≤_, _<_}
 use mathlib.Core.Path.{_≡_, refl}
-use mathlib.Core.Bool.{Bool, true, false, cond, _&&_, Bool·beq, and-eq-true-iff, false≢true}
+use mathlib.Core.Bool.{Bool, true, false, cond, not, _&&_, Bool·beq, and-eq-true-iff, false≢true}
 use native.Mathlib.Nat.{not-suc-le-zero, le-of-suc-le-suc}
 use lib.Dec.{ltb, eqb}
 use lib.Bits.{bitAnd, bitOr}
@@ -57,6 +57,10 @@ bit-back unit bit t a b c d =
 pub bits-back : (a b c d : Bool) → let n = nibble a b c d in (bitOf n 1 ≡ a) × (bitOf n 2 ≡ b) × (bitOf n 4 ≡ c) × (bitOf n 8 ≡ d)
 bits-back a b c d =
     (bit-back 1 (λ a b c d. a) refl a b c d, bit-back 2 (λ a b c d. b) refl a b c d, bit-back 4 (λ a b c d. c) refl a b c d, bit-back 8 (λ a b c d. d) refl a b c d)
+
+-- bit 0 is whether the byte is odd
+pub even-is : (n : ℕ) → n < 16 → eqb (n % 2) 0 ≡ not (bitOf n 1)
+even-is n h = beq-true (eqb (n % 2) 0) (not (bitOf n 1)) (below-each 16 (λ n. Bool·beq (eqb (n % 2) 0) (not (bitOf n 1))) refl n h)
 
 -- v stored in bit k - 1 of a byte: the masks 1, 2, 4, 8 set it, 14, 13, 11, 7 clear it
 abbrev pub masked : ℕ → Bool → ℕ → ℕ

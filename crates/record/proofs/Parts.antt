@@ -45,7 +45,7 @@ part-drop (suc n) m s j = rw (getD-drop m s j 0, ← add-suc m j) (ap (λ (t : L
 
 -- ---- zeros behind a list
 
-shift : (n x : ℕ) (l : List ℕ) (j : ℕ) → bytesAt n (x ∷ l) (suc j) ≡ bytesAt n l j
+pub shift : (n x : ℕ) (l : List ℕ) (j : ℕ) → bytesAt n (x ∷ l) (suc j) ≡ bytesAt n l j
 shift zero x l j = refl
 shift (suc n) x l j = ap (λ (t : List ℕ). getD l j 0 ∷ t) (shift n x l (suc j))
 
@@ -132,7 +132,7 @@ sets-nil : (j : ℕ) (vs : List ℕ) → sets [] j vs ≡ []
 sets-nil j [] = refl
 sets-nil j (v ∷ vs) = sets-nil (suc j) vs
 
-sets-cons : (x : ℕ) (l : List ℕ) (j : ℕ) (vs : List ℕ) → sets (x ∷ l) (suc j) vs ≡ x ∷ sets l j vs
+pub sets-cons : (x : ℕ) (l : List ℕ) (j : ℕ) (vs : List ℕ) → sets (x ∷ l) (suc j) vs ≡ x ∷ sets l j vs
 sets-cons x l j [] = refl
 sets-cons x l j (v ∷ vs) = sets-cons x (set l j v) (suc j) vs
 

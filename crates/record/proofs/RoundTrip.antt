@@ -1,137 +1,133 @@
--- Records in range and well-formed bytes are the same: each way there and back again.
-use Prim.Native.Nat.{ℕ, _+_, _*_, _<_}
-use mathlib.Core.Path.{_≡_, refl, sym, ap, _∙_}
-use mathlib.Core.Bool.{Bool, true, false, cond}
+-- Records in range and well-formed bytes are the same, in any layout: each way there and back again.
+use Prim.Native.Nat.{ℕ, _+_}
+use mathlib.Core.Path.{_≡_, refl, sym, ap, ap₂, fun-ext, _∙_}
+use mathlib.Core.Bool.{Bool, true, false, cond, _&&_, _||_, and-assoc, and-eq-true-iff, false≢true}
 use mathlib.Core.List.{List, [], _∷_, _++_}
+use native.Mathlib.Nat.{zero-add}
 use native.Mathlib.Omega.{arith}
-use lib.ListN.{length, getD, take}
-use lib.Seq.{length-take-le}
-use lib.Dec.{ltb}
-use borrow.Author.Tests.{ltb-true}
-use Rattle.wire.specs.Numbers.{Bytes, halfAt, wordAt, bytes2, bytes4, bytesAt}
-use Rattle.wire.specs.declared.Range.the-variants.{Fits, Big}
-use Rattle.wire.proofs.NumberLaws.{part-all, bytes-part, bytes-take}
-use Rattle.wire.proofs.SerialLaws.{pending-short}
-use Rattle.peak.specs.Pairs.{noPair, pairFits, pairAt, pairBytes}
+use lib.ListN.{length, getD}
+use lib.Dec.{eqb}
+use borrow.Author.Tests.{eq-eqb, eqb-true}
+use Rattle.wire.specs.Numbers.{Bytes, bytesAt}
+use Rattle.wire.proofs.NumberLaws.{length-part, part-all, bytes-part}
 use Rattle.record.specs.Record.{Record}
-use Rattle.record.specs.Limits.{inputRange, filterRange}
-use Rattle.record.specs.Layout.{recordSize, version, channels, pendingRoom, atFlags, atTries, atCode, atPower, atStep, atMode, atOnOff, atInputs, atOutputs, atInterval, atFilter, atName, atModel, atPending, atPairs, bytesOf, recordOf}
-use Rattle.record.specs.Form.{wellFormed, InRange}
-use Rattle.record.proofs.Choices.{nibble-below, nibble-back, bits-back}
-use Rattle.record.proofs.Parts.{word-lt, words-lt, half-at, word-at, part-back, rest-zero, pad-take, cut-cut, cut-bytes, cut-le, cut-back, cut-behind, pad-cut}
-use Rattle.record.proofs.Lens.{get-code, get-power, get-filter, get-pairs}
-use Rattle.record.proofs.Facts.{Facts, facts, formed}
+use Rattle.record.specs.Layout.{Part, FlagByte, same, has, Plan, current, width, place, planSize, piece, lay, chunk, valueOf, bytesIn, recordIn, bytesOf, recordOf}
+use Rattle.record.specs.Form.{Field, allFine, testsOf, testsBy, readingBy, fieldsIn, wellIn, wellFormed, InRangeIn, InRange}
+use Rattle.record.proofs.Choices.{bits-back}
+use Rattle.record.proofs.Layouts.{has-first, has-later, same-is, lay-same, lay-long, lay-part, cut-lay}
+use Rattle.record.specs.Laid.{Laid}
+use Rattle.record.proofs.Plans.{laid}
+use Rattle.record.proofs.Pieces.{Cut, present, chunk-long, chunk-fine, read-present, write-part, value-in}
 
--- ---- a record from its bytes
+-- ---- the tests of all parts
 
-filter-lt : (w : ℕ) → filterRange w ≡ Fits → w < 0x100000000
-filter-lt w e = by (ltb w 64) refl e
+fine-append : (a b : List Field) → allFine (a ++ b) ≡ (allFine a && allFine b)
+fine-append [] b = refl
+fine-append (f ∷ a) b = ap (λ (t : Bool). f .fine && t) (fine-append a b) ∙ sym (and-assoc (f .fine) (allFine a) (allFine b))
+
+tests-all : (t : Part → List Field) (ps : List Part) → ((q : Part) → has ps q ≡ true → allFine (t q) ≡ true) → allFine (testsBy t ps) ≡ true
+tests-all t [] h = refl
+tests-all t (x ∷ ps) h = fine-append (t x) (testsBy t ps) ∙ ap₂ (_&&_) (h x (has-first x ps)) (tests-all t ps (λ q e. h q (has-later q x ps e)))
+
+tests-each : (t : Part → List Field) (ps : List Part) → allFine (testsBy t ps) ≡ true → (q : Part) → has ps q ≡ true → allFine (t q) ≡ true
+tests-each t [] e q h = absurd (false≢true h)
+tests-each t (x ∷ ps) e q h = by (same q x) refl h (λ k. tests-each t ps (w .1) q k)
   where
-    by : (t : Bool) → ltb w 64 ≡ t → cond t Fits Big ≡ Fits → w < 0x100000000
-    by true t e = omega (arith, ltb-true w 64 t)
-    by false t e = let z : _≡_ {A = ℕ} 0 1 = cc in absurd (omega arith)
+    w : (allFine (t x) ≡ true) × (allFine (testsBy t ps) ≡ true)
+    w = and-eq-true-iff (allFine (t x)) (allFine (testsBy t ps)) .0 (sym (fine-append (t x) (testsBy t ps)) ∙ e)
+
+    by : (b : Bool) → same q x ≡ b → (b || has ps q) ≡ true → (has ps q ≡ true → allFine (t q) ≡ true) → allFine (t q) ≡ true
+    by true s h ih = ap (λ (y : Part). allFine (t y)) (same-is q x s) ∙ w .0
+    by false s h ih = ih h
+
+module _ (p : Plan) (l : Laid p) where
+  -- ---- a record from its bytes
+
+  module _ (r : Record) where
+    pub get-part : (q : Part) → has (p .parts) q ≡ true → bytesAt (width p q) (bytesIn p r) (place p q) ≡ chunk p r q
+    unfolding bytesIn
+    get-part q e = lay-part (width p) (chunk p r) (chunk-long p r) q (p .parts) e
+
+    piece-is : (q : Part) → piece p (bytesIn p r) q ≡ present p l r q
+    piece-is q = by (has (p .parts) q) refl
+      where
+        by : (t : Bool) → has (p .parts) q ≡ t → cond t (bytesAt (width p q) (bytesIn p r) (place p q)) [] ≡ cond t (chunk p r q) []
+        by true e = get-part q e
+        by false e = refl
+
+    pub longIn : length (bytesIn p r) ≡ planSize p
+    unfolding bytesIn
+    longIn = lay-long (width p) (chunk p r) (chunk-long p r) (p .parts)
+
+    module _ (h : InRangeIn p r) where
+      pub read-backIn : recordIn p (bytesIn p r) ≡ r
+      unfolding recordIn
+      read-backIn = ap (valueOf p) (fun-ext piece-is) ∙ read-present p l r h
+
+      pub well-formedIn : wellIn p (bytesIn p r) ≡ true
+      unfolding wellIn
+      well-formedIn =
+          let s = bytesIn p r in
+          let core : has (p .parts) FlagByte ≡ true = ap (λ (b : List Bool). getD b 2 true) (l .core) in
+          let there : (q : Part) → has (p .parts) q ≡ true → piece p s q ≡ chunk p r q = λ q e. ap (λ (t : Bool). cond t (bytesAt (width p q) s (place p q)) []) e ∙ get-part q e in
+          let reading : readingBy (piece p s FlagByte) ≡ r .flags .reading = ap readingBy (there FlagByte core) ∙ bits-back (r .flags .opened) (r .flags .unlocked) (r .flags .sending) (r .flags .reading) .3 in
+          ap₂ (_&&_) (eq-eqb (length s) (planSize p) longIn)
+          (tests-all (λ q. testsOf p (readingBy (piece p s FlagByte)) (place p q) (piece p s q) q) (p .parts)
+          (λ q e. ap₂ (λ (b : Bool) (c : List ℕ). allFine (testsOf p b (place p q) c q)) reading (there q e) ∙ chunk-fine p l r h (place p q) q))
+
+  -- ---- bytes of a record
+
+  module _ (s : List ℕ) (b : Bytes s) (e : wellIn p s ≡ true) where
+    well : (length s ≡ planSize p) × (allFine (fieldsIn p s) ≡ true)
+    unfolding wellIn
+    well = let w = and-eq-true-iff (eqb (length s) (planSize p)) (allFine (fieldsIn p s)) .0 e in (eqb-true (length s) (planSize p) (w .0), w .1)
+
+    there : (q : Part) → has (p .parts) q ≡ true → piece p s q ≡ bytesAt (width p q) s (place p q)
+    there q t = ap (λ (t : Bool). cond t (bytesAt (width p q) s (place p q)) []) t
+
+    not-there : (q : Part) → has (p .parts) q ≡ false → piece p s q ≡ []
+    not-there q t = ap (λ (t : Bool). cond t (bytesAt (width p q) s (place p q)) []) t
+
+    piece-bytes : (q : Part) → Bytes (piece p s q)
+    piece-bytes q = by (has (p .parts) q)
+      where
+        by : (t : Bool) → Bytes (cond t (bytesAt (width p q) s (place p q)) [])
+        by true = bytes-part (width p q) s (place p q) b
+        by false = λ i. omega arith
+
+    pieces : Cut p l (piece p s)
+    pieces = record {
+      long = λ q t. ap length (there q t) ∙ length-part (width p q) s (place p q);
+      none = not-there;
+      bytes = piece-bytes;
+      fine = tests-each (λ q. testsOf p (readingBy (piece p s FlagByte)) (place p q) (piece p s q) q) (p .parts) (well .1);
+    }
+
+    pub in-rangeIn : InRangeIn p (recordIn p s)
+    unfolding recordIn
+    in-rangeIn = value-in p l (piece p s) pieces
+
+    pub write-backIn : bytesIn p (recordIn p s) ≡ s
+    unfolding bytesIn recordIn
+    write-backIn =
+        lay-same (chunk p (valueOf p (piece p s))) (λ q. bytesAt (width p q) s (0 + place p q)) (p .parts)
+        (λ q t. write-part p l (piece p s) pieces q t ∙ there q t ∙ ap (bytesAt (width p q) s) (sym (zero-add (place p q))))
+        ∙ cut-lay (width p) s (p .parts) (l .apart) 0 ∙ part-all (planSize p) s (well .0)
+
+-- ---- the current version
 
 pub read-back : (r : Record) → InRange r → recordOf (bytesOf r) ≡ r
 unfolding recordOf bytesOf
-read-back r h =
-    let flags = bits-back (r .flags .opened) (r .flags .unlocked) (r .flags .sending) (r .flags .reading) in
-    let outputs = bits-back (r .outputs .first) (r .outputs .second) (r .outputs .third) (r .outputs .fourth) in
-    λ i. record {
-      flags = record { opened = flags .0 i; unlocked = flags .1 i; sending = flags .2 i; reading = flags .3 i };
-      tries = r .tries;
-      code = get-code r (h .code) i;
-      settings = record {
-        power = get-power r (h .power-half) i;
-        step = r .settings .step;
-        mode = r .settings .mode;
-        onOff = r .settings .onOff;
-        inputs = part-all 5 (r .settings .inputs) (h .five) i;
-        interval = r .settings .interval;
-        filter = get-filter r (filter-lt (r .settings .filter) (h .filter)) i;
-        name = part-back 15 (r .settings .name) (h .name-length) i;
-      };
-      outputs = record { first = outputs .0 i; second = outputs .1 i; third = outputs .2 i; fourth = outputs .3 i };
-      model = cut-back 15 (r .model) (h .model-length) (h .model) i;
-      pending = part-back pendingRoom (r .pending) (pending-short (r .pending) (h .pending)) i;
-      pairs = get-pairs r (h .six) (h .words) i;
-    }
-
-held : (r : Record) → InRange r → Facts (bytesOf r)
-unfolding bytesOf
-held r h =
-    let flags = bits-back (r .flags .opened) (r .flags .unlocked) (r .flags .sending) (r .flags .reading) in
-    record {
-      long = refl;
-      size = refl;
-      version = refl;
-      flags = nibble-below (r .flags .opened) (r .flags .unlocked) (r .flags .sending) (r .flags .reading);
-      tries = h .tries;
-      power = rw (get-power r (h .power-half)) (h .power);
-      step = h .step;
-      mode = h .mode;
-      on-off = h .on-off;
-      inputs = λ k. (λ i. inputRange (getD (part-all 5 (r .settings .inputs) (h .five) i) k 0)) ∙ h .inputs k;
-      outputs = nibble-below (r .outputs .first) (r .outputs .second) (r .outputs .third) (r .outputs .fourth);
-      interval = h .interval;
-      filter = rw (get-filter r (filter-lt (r .settings .filter) (h .filter))) (h .filter);
-      name-length = h .name-length;
-      name = rw (part-back 15 (r .settings .name) (h .name-length)) (h .name);
-      name-rest = rest-zero 15 (r .settings .name) (h .name-length);
-      model = cut-behind 15 (r .model) (h .model-length) (h .model);
-      pending-length = pending-short (r .pending) (h .pending);
-      pending = rw (part-back pendingRoom (r .pending) (pending-short (r .pending) (h .pending))) (h .pending);
-      pending-rest = rest-zero pendingRoom (r .pending) (pending-short (r .pending) (h .pending));
-      pairs = λ k t. (λ i. pairFits (flags .3 i) (getD (get-pairs r (h .six) (h .words) i) k noPair)) ∙ h .pairs k t;
-    }
+read-back r h = read-backIn current laid r h
 
 pub well-formed : (r : Record) → InRange r → wellFormed (bytesOf r) ≡ true
-well-formed r h = formed (bytesOf r) (held r h)
-
--- ---- bytes of a record
+unfolding wellFormed bytesOf
+well-formed r h = well-formedIn current laid r h
 
 pub in-range : (s : List ℕ) → Bytes s → wellFormed s ≡ true → InRange (recordOf s)
-unfolding recordOf
-in-range s b e =
-    let f = facts s e in
-    let name : length (take (getD s atName 0) (bytesAt 15 s (atName + 1))) ≡ getD s atName 0 = length-take-le (getD s atName 0) (bytesAt 15 s (atName + 1)) (f .name-length) in
-    record {
-      tries = f .tries;
-      code = word-lt s b atCode;
-      power = f .power;
-      power-half = omega (arith, b atPower, b (atPower + 1));
-      step = f .step;
-      mode = f .mode;
-      on-off = f .on-off;
-      five = refl;
-      inputs = f .inputs;
-      interval = f .interval;
-      filter = f .filter;
-      name-length = omega (arith, f .name-length);
-      name = f .name;
-      model-length = cut-le (bytesAt 15 s atModel);
-      model = cut-cut (bytesAt 15 s atModel);
-      model-bytes = cut-bytes (bytesAt 15 s atModel) (bytes-part 15 s atModel b);
-      pending = f .pending;
-      pending-bytes = bytes-take (getD s atPending 0) (bytesAt pendingRoom s (atPending + 1)) (bytes-part pendingRoom s (atPending + 1) b);
-      six = refl;
-      words = words-lt s b channels atPairs;
-      pairs = f .pairs;
-    }
+unfolding wellFormed recordOf
+in-range s b e = in-rangeIn current laid s b e
 
 pub write-back : (s : List ℕ) → Bytes s → wellFormed s ≡ true → bytesOf (recordOf s) ≡ s
-unfolding recordOf bytesOf
-write-back s b e =
-    let f = facts s e in
-    let half : (at : ℕ) → bytes2 (halfAt s at) ≡ bytesAt 2 s at = half-at s b in
-    let word : (at : ℕ) → bytes4 (wordAt s at) ≡ bytesAt 4 s at = word-at s b in
-    let pair : (k : ℕ) → pairBytes (pairAt s (atPairs + 8 * k)) ≡ bytesAt 4 s (atPairs + 8 * k) ++ bytesAt 4 s (atPairs + 8 * k + 4) = λ k i. word (atPairs + 8 * k) i ++ word (atPairs + 8 * k + 4) i in
-    let size : bytes2 recordSize ≡ bytesAt 2 s 0 = sym (ap bytes2 (f .size)) ∙ half 0 in
-    let name = bytesAt 15 s (atName + 1) in
-    let pending = bytesAt pendingRoom s (atPending + 1) in
-    (λ i. size i ++ (sym (f .version) i ∷ nibble-back (getD s atFlags 0) (f .flags) i ∷ getD s atTries 0 ∷ word atCode i ++ (half atPower i
-    ++ (getD s atStep 0 ∷ getD s atMode 0 ∷ getD s atOnOff 0 ∷ bytesAt 5 s atInputs
-    ++ (nibble-back (getD s atOutputs 0) (f .outputs) i ∷ getD s atInterval 0 ∷ word atFilter i
-    ++ (length-take-le (getD s atName 0) name (f .name-length) i ∷ pad-take (getD s atName 0) name (f .name-rest) i
-    ++ (pad-cut (bytesAt 15 s atModel) (f .model) i
-    ++ (length-take-le (getD s atPending 0) pending (f .pending-length) i ∷ pad-take (getD s atPending 0) pending (f .pending-rest) i
-    ++ (pair 0 i ++ (pair 1 i ++ (pair 2 i ++ (pair 3 i ++ (pair 4 i ++ (pair 5 i ++ [])))))))))))))) ∙ part-all recordSize s (f .long)
+unfolding wellFormed recordOf bytesOf
+write-back s b e = write-backIn current laid s b e

@@ -13,13 +13,14 @@ use Rattle.wire.specs.Ranges.{within, unsigned, also}
 use Rattle.wire.specs.declared.Range.{Range}
 use Rattle.wire.specs.declared.Range.the-variants.{Fits, Big, Small}
 use Rattle.wire.proofs.NumberLaws.{bytes-part, bytes-append}
-use Rattle.wire.proofs.SerialLaws.{pending-short}
 use Rattle.peak.specs.Pairs.{Pair, noPair, pairBytes, pairsBytes}
 use Rattle.record.specs.Record.{Record, withCode}
 use Rattle.record.specs.Limits.{nameRange, intervalRange}
-use Rattle.record.specs.Layout.{recordSize, version, channels, pendingRoom, flagsByte, outputsByte, bytesOf}
-use Rattle.record.specs.Form.{InRange}
+use Rattle.record.specs.Layout.{Part, SizeBytes, VersionByte, FlagByte, TriesByte, CodeWord, PowerHalf, StepByte, ModeByte, OnOffByte, InputBytes, OutputByte, IntervalByte, FilterWord, NamePart, ModelPart, PendingPart, PairsPart, CounterHalf, Plan, current, planSize, lay, flagsByte, outputsByte, chunk, bytesIn, bytesOf}
+use Rattle.record.specs.Form.{InRangeIn, InRange}
 use Rattle.record.proofs.Choices.{nibble-below}
+use Rattle.record.specs.Laid.{Laid}
+use Rattle.record.proofs.Plans.{laid}
 use Rattle.record.proofs.Bounds.{signed-range, interval-range}
 
 pub code-in : (r : Record) (k : ℕ) → k < 0x100000000 → InRange r → InRange (withCode r k)
@@ -80,31 +81,36 @@ pairs-all (suc n) ps i =
     let p = getD ps i noPair in
     append (pairBytes p) _ (append (bytes4 (p .greatest)) _ (word-all (p .greatest) .bytes) (word-all (p .smallest)) .bytes) (pairs-all n ps (suc i))
 
-whole : (r : Record) → InRange r → Each (bytesOf r)
-unfolding bytesOf
-whole r h =
-    let f = r .flags in
-    let g = r .settings in
-    let o = r .outputs in
-    append (bytes2 recordSize) _ (half-all recordSize .bytes)
-    (cons version _ (omega arith)
-    (cons (flagsByte f) _ (omega (arith, nibble-below (f .opened) (f .unlocked) (f .sending) (f .reading)))
-    (cons (r .tries) _ (omega (arith, h .tries))
-    (append (bytes4 (r .code)) _ (word-all (r .code) .bytes)
-    (append (bytes2 (g .power)) _ (half-all (g .power) .bytes)
-    (cons (g .step) _ (small-byte 0 5 (g .step) (h .step))
-    (cons (g .mode) _ (small-byte 0 1 (g .mode) (h .mode))
-    (cons (g .onOff) _ (small-byte 0 2 (g .onOff) (h .on-off))
-    (append (bytesAt 5 (g .inputs) 0) _ (bytes-part 5 (g .inputs) 0 (λ i. small-byte 0 1 (getD (g .inputs) i 0) (h .inputs i)))
-    (cons (outputsByte o) _ (omega (arith, nibble-below (o .first) (o .second) (o .third) (o .fourth)))
-    (cons (g .interval) _ (interval-byte (g .interval) (h .interval))
-    (append (bytes4 (g .filter)) _ (word-all (g .filter) .bytes)
-    (cons (length (g .name)) _ (omega (arith, h .name-length))
-    (append (bytesAt 15 (g .name) 0) _ (bytes-part 15 (g .name) 0 (name-all (g .name) (h .name) .bytes))
-    (append (bytesAt 15 (r .model) 0) _ (bytes-part 15 (r .model) 0 (h .model-bytes))
-    (cons (length (r .pending)) _ (omega (arith, pending-short (r .pending) (h .pending)))
-    (append (bytesAt pendingRoom (r .pending) 0) _ (bytes-part pendingRoom (r .pending) 0 (h .pending-bytes))
-    (pairs-all channels (r .pairs) 0))))))))))))))))))
+module _ (p : Plan) (l : Laid p) (r : Record) (h : InRangeIn p r) where
+  part-bytes : (q : Part) → Each (chunk p r q)
+  part-bytes SizeBytes = half-all (planSize p)
+  part-bytes VersionByte = cons (p .version) [] (l .version) none
+  part-bytes FlagByte = let f = r .flags in cons (flagsByte f) [] (omega (arith, nibble-below (f .opened) (f .unlocked) (f .sending) (f .reading))) none
+  part-bytes TriesByte = cons (r .tries) [] (omega (arith, h .tries)) none
+  part-bytes CodeWord = word-all (r .code)
+  part-bytes PowerHalf = half-all (r .settings .power)
+  part-bytes StepByte = cons (r .settings .step) [] (small-byte 0 5 (r .settings .step) (h .step)) none
+  part-bytes ModeByte = cons (r .settings .mode) [] (small-byte 0 1 (r .settings .mode) (h .mode)) none
+  part-bytes OnOffByte = cons (r .settings .onOff) [] (small-byte 0 2 (r .settings .onOff) (h .on-off)) none
+  part-bytes InputBytes = record { bytes = bytes-part 5 (r .settings .inputs) 0 (λ i. small-byte 0 1 (getD (r .settings .inputs) i 0) (h .inputs i)) }
+  part-bytes OutputByte = let o = r .outputs in cons (outputsByte o) [] (omega (arith, nibble-below (o .first) (o .second) (o .third) (o .fourth))) none
+  part-bytes IntervalByte = cons (r .settings .interval) [] (interval-byte (r .settings .interval) (h .interval)) none
+  part-bytes FilterWord = word-all (r .settings .filter)
+  part-bytes NamePart = let g = r .settings in cons (length (g .name)) (bytesAt 15 (g .name) 0) (omega (arith, h .name-length)) (record { bytes = bytes-part 15 (g .name) 0 (name-all (g .name) (h .name) .bytes) })
+  part-bytes ModelPart = record { bytes = bytes-part 15 (r .model) 0 (h .model-bytes) }
+  part-bytes PendingPart =
+      cons (length (r .pending)) (bytesAt (p .room) (r .pending) 0) (omega (arith, l .short (r .pending) (h .pending), l .room)) (record { bytes = bytes-part (p .room) (r .pending) 0 (h .pending-bytes) })
+  part-bytes PairsPart = pairs-all (p .channels) (r .pairs) 0
+  part-bytes CounterHalf = half-all (r .counter)
+
+  whole : (ps : List Part) → Each (lay (chunk p r) ps)
+  whole [] = none
+  whole (q ∷ ps) = append (chunk p r q) (lay (chunk p r) ps) (part-bytes q .bytes) (whole ps)
+
+  pub bytes-bytesIn : Bytes (bytesIn p r)
+  unfolding bytesIn
+  bytes-bytesIn = whole (p .parts) .bytes
 
 pub bytes-bytes : (r : Record) → InRange r → Bytes (bytesOf r)
-bytes-bytes r h = whole r h .bytes
+unfolding bytesOf
+bytes-bytes r h = bytes-bytesIn current laid r h

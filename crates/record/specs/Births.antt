@@ -5,7 +5,7 @@ use mathlib.Core.List.{List, [], _∷_}
 use lib.ListN.{replicate}
 use Rattle.peak.specs.Pairs.{Pair, noPair}
 use Rattle.record.specs.Record.{Flags, Outputs, Record}
-use Rattle.record.specs.Layout.{channels}
+use Rattle.record.specs.Layout.{Plan, current}
 
 -- `GSV-6BT_dev`
 abbrev pub factoryName : List ℕ
@@ -18,8 +18,8 @@ freshFlags = record { opened = false; unlocked = false; sending = true; reading 
 abbrev pub allOff : Outputs
 allOff = record { first = false; second = false; third = false; fourth = false }
 
-abbrev pub noPairs : List Pair
-noPairs = replicate channels noPair
+abbrev pub noPairs : Plan → List Pair
+noPairs p = replicate (p .channels) noPair
 
 -- "Factory: sending on; code 55 53 43 31 (000's GSV-6 default); power 12; mode 1; on/off 1; name `GSV-6BT_dev`; all else zero or empty."
 unfoldable pub factory : Record
@@ -31,9 +31,14 @@ factory = record {
   outputs = allOff;
   model = [];
   pending = [];
-  pairs = noPairs;
+  pairs = noPairs current;
+  counter = 0;
 }
 
 -- "Power-on closes configuration mode, locks, sets tries and outputs to 0 and sending on, and drops pending bytes, pairs and the reading flag, all to zero; the rest stays."
+unfoldable pub poweredOnIn : Plan → Record → Record
+poweredOnIn p r = record { flags = freshFlags; tries = 0; code = r .code; settings = r .settings; outputs = allOff; model = r .model; pending = []; pairs = noPairs p; counter = 0 }
+
 unfoldable pub poweredOn : Record → Record
-poweredOn r = record { flags = freshFlags; tries = 0; code = r .code; settings = r .settings; outputs = allOff; model = r .model; pending = []; pairs = noPairs }
+unfolding poweredOnIn
+poweredOn r = poweredOnIn current r

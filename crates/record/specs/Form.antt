@@ -1,9 +1,9 @@
 -- Which bytes are a board record: its fields in record order, each with its place and whether it is as it has to be.
-use Prim.Native.Nat.{ℕ, zero, suc, _+_, _<_, _≤_}
+use Prim.Native.Nat.{ℕ, zero, suc, _+_, _%_, _<_, _≤_}
 use mathlib.Core.Path.{_≡_}
-use mathlib.Core.Bool.{Bool, true, false, _&&_}
+use mathlib.Core.Bool.{Bool, true, false, cond, not, _&&_, _||_}
 use mathlib.Core.List.{List, [], _∷_, _++_}
-use lib.ListN.{length, getD, take, drop}
+use lib.ListN.{length, getD, take, drop, replicate}
 use lib.Dec.{ltb, leb, eqb}
 use Rattle.wire.specs.Numbers.{Bytes, halfAt, wordAt, bytesAt}
 use Rattle.wire.specs.Ranges.{fits}
@@ -11,9 +11,9 @@ use Rattle.wire.specs.Frames.{look, waits}
 use Rattle.wire.specs.Serial.{serial}
 use Rattle.wire.specs.declared.Range.the-variants.{Fits}
 use Rattle.peak.specs.Pairs.{noPair, pairFits, pairAt, key}
-use Rattle.record.specs.Record.{Record}
+use Rattle.record.specs.Record.{Outputs, Settings, Record}
 use Rattle.record.specs.Limits.{powerRange, stepRange, modeRange, onOffRange, inputRange, intervalRange, filterRange, nameRange, beforeZero}
-use Rattle.record.specs.Layout.{recordSize, version, channels, pendingRoom, atVersion, atFlags, atTries, atPower, atStep, atMode, atOnOff, atInputs, atOutputs, atInterval, atFilter, atName, atModel, atPending, atPairs, bitOf}
+use Rattle.record.specs.Layout.{Part, SizeBytes, VersionByte, FlagByte, TriesByte, CodeWord, PowerHalf, StepByte, ModeByte, OnOffByte, InputBytes, OutputByte, IntervalByte, FilterWord, NamePart, ModelPart, PendingPart, PairsPart, CounterHalf, Plan, current, has, place, piece, planSize, bitOf}
 use Rattle.record.specs.declared.Form.{Form}
 use Rattle.record.specs.declared.Form.the-variants.{Good, Bad}
 
@@ -39,62 +39,78 @@ zerosBehind (suc b ∷ s) = zerosBehind s
 abbrev pub partFits : (List ℕ → Bool) → ℕ → List ℕ → Bool
 partFits test n s = test (take n s) && allZero (drop n s)
 
--- n fields of the same kind, each so many bytes long
-abbrev pub several : ℕ → ℕ → (ℕ → Bool) → ℕ → List Field
-several zero width fine at = []
-several (suc n) width fine at = field at (fine at) ∷ several n width fine (at + width)
+-- n fields of the same kind, each so many bytes long, from byte k of their part on
+abbrev pub several : ℕ → ℕ → (ℕ → Bool) → ℕ → ℕ → List Field
+several zero width fine at k = []
+several (suc n) width fine at k = field (at + k) (fine k) ∷ several n width fine at (k + width)
 
--- "length 00 7B; version 01; flags (..others 0); tries 0..3"
+-- ---- the fields of a part that stands at a place, by its bytes
+
+-- "flags (bit 0 open, 1 unlocked, 2 sending, 3 reading seen, others 0)"; without a configuration mode bit 0 is 0 too
+abbrev pub flagsFit : Bool → ℕ → Bool
+flagsFit true b = ltb b 16
+flagsFit false b = ltb b 16 && eqb (b % 2) 0
+
+-- "Every code is well formed.": it has no test
+abbrev pub testsOf : Plan → Bool → ℕ → List ℕ → Part → List Field
+testsOf p reading at c SizeBytes = field at (eqb (halfAt c 0) (planSize p)) ∷ []
+testsOf p reading at c VersionByte = field at (eqb (getD c 0 0) (p .version)) ∷ []
+testsOf p reading at c FlagByte = field at (flagsFit (p .opens) (getD c 0 0)) ∷ []
+testsOf p reading at c TriesByte = field at (leb (getD c 0 0) 3) ∷ []
+testsOf p reading at c CodeWord = []
+testsOf p reading at c PowerHalf = field at (fits (powerRange (halfAt c 0))) ∷ []
+testsOf p reading at c StepByte = field at (fits (stepRange (getD c 0 0))) ∷ []
+testsOf p reading at c ModeByte = field at (fits (modeRange (getD c 0 0))) ∷ []
+testsOf p reading at c OnOffByte = field at (fits (onOffRange (getD c 0 0))) ∷ []
+testsOf p reading at c InputBytes = several 5 1 (λ k. fits (inputRange (getD c k 0))) at 0
+testsOf p reading at c OutputByte = field at (ltb (getD c 0 0) 16) ∷ []
+testsOf p reading at c IntervalByte = field at (fits (intervalRange (getD c 0 0))) ∷ []
+testsOf p reading at c FilterWord = field at (fits (filterRange (p .filters) (wordAt c 0))) ∷ []
+testsOf p reading at c NamePart = field at (leb (getD c 0 0) 15) ∷ field (at + 1) (partFits (λ l. fits (nameRange l)) (getD c 0 0) (bytesAt 15 c 1)) ∷ []
+testsOf p reading at c ModelPart = field at (zerosBehind (bytesAt 15 c 0)) ∷ []
+testsOf p reading at c PendingPart = field at (leb (getD c 0 0) (p .room)) ∷ field (at + 1) (partFits (waits (p .heads)) (getD c 0 0) (bytesAt (p .room) c 1)) ∷ []
+testsOf p reading at c PairsPart = several (p .channels) 8 (λ k. pairFits reading (pairAt c k)) at 0
+testsOf p reading at c CounterHalf = []
+
+abbrev pub testsBy : (Part → List Field) → List Part → List Field
+testsBy t [] = []
+testsBy t (x ∷ ps) = t x ++ testsBy t ps
+
+abbrev pub readingBy : List ℕ → Bool
+readingBy c = bitOf (getD c 0 0) 8
+
+-- the fields of some parts, and all fields in record order
+abbrev pub fieldsAt : Plan → List ℕ → List Part → List Field
+fieldsAt p s qs = testsBy (λ q. testsOf p (readingBy (piece p s FlagByte)) (place p q) (piece p s q) q) qs
+
+abbrev pub fieldsIn : Plan → List ℕ → List Field
+fieldsIn p s = fieldsAt p s (p .parts)
+
+-- ---- the groups that the check of the current layout goes by
+
 abbrev pub headFields : List ℕ → List Field
-headFields s =
-    field 0 (eqb (halfAt s 0) recordSize)
-    ∷ field atVersion (eqb (getD s atVersion 0) version)
-    ∷ field atFlags (ltb (getD s atFlags 0) 16)
-    ∷ field atTries (leb (getD s atTries 0) 3)
-    ∷ []
+headFields s = fieldsAt current s (SizeBytes ∷ VersionByte ∷ FlagByte ∷ TriesByte ∷ CodeWord ∷ [])
 
--- "Every code is well formed.": it is no field of this list. "Classic power 2; LE step; mode; on/off"
 abbrev pub radioFields : List ℕ → List Field
-radioFields s =
-    field atPower (fits (powerRange (halfAt s atPower)))
-    ∷ field atStep (fits (stepRange (getD s atStep 0)))
-    ∷ field atMode (fits (modeRange (getD s atMode 0)))
-    ∷ field atOnOff (fits (onOffRange (getD s atOnOff 0)))
-    ∷ []
+radioFields s = fieldsAt current s (PowerHalf ∷ StepByte ∷ ModeByte ∷ OnOffByte ∷ [])
 
--- "input types 5 (channels 2 to 6)"
 abbrev pub inputFields : List ℕ → List Field
-inputFields s = several 5 1 (λ at. fits (inputRange (getD s at 0))) atInputs
+inputFields s = fieldsAt current s (InputBytes ∷ [])
 
--- "outputs (output k in bit k - 1, bits 4 to 7 zero); interval; filter word 4"
 abbrev pub switchFields : List ℕ → List Field
-switchFields s =
-    field atOutputs (ltb (getD s atOutputs 0) 16)
-    ∷ field atInterval (fits (intervalRange (getD s atInterval 0)))
-    ∷ field atFilter (fits (filterRange (wordAt s atFilter)))
-    ∷ []
+switchFields s = fieldsAt current s (OutputByte ∷ IntervalByte ∷ FilterWord ∷ [])
 
--- "name length and 15 bytes, each at most 7F, zero behind the name"
 abbrev pub nameFields : List ℕ → List Field
-nameFields s =
-    field atName (leb (getD s atName 0) 15)
-    ∷ field (atName + 1) (partFits (λ l. fits (nameRange l)) (getD s atName 0) (bytesAt 15 s (atName + 1)))
-    ∷ []
+nameFields s = fieldsAt current s (NamePart ∷ [])
 
--- "model 15, all zero from its first zero"
 abbrev pub modelFields : List ℕ → List Field
-modelFields s = field atModel (zerosBehind (bytesAt 15 s atModel)) ∷ []
+modelFields s = fieldsAt current s (ModelPart ∷ [])
 
--- "pending bytes are such as the hunt can leave waiting with zeros behind"
 abbrev pub pendingFields : List ℕ → List Field
-pendingFields s =
-    field atPending (leb (getD s atPending 0) pendingRoom)
-    ∷ field (atPending + 1) (partFits (waits serial) (getD s atPending 0) (bytesAt pendingRoom s (atPending + 1)))
-    ∷ []
+pendingFields s = fieldsAt current s (PendingPart ∷ [])
 
--- "six pairs greatest, smallest, from channel 1 on"
 abbrev pub pairFields : List ℕ → List Field
-pairFields s = several channels 8 (λ at. pairFits (bitOf (getD s atFlags 0) 8) (pairAt s at)) atPairs
+pairFields s = fieldsAt current s (PairsPart ∷ [])
 
 abbrev pub groupsOf : List ℕ → List (List Field)
 groupsOf s = headFields s ∷ radioFields s ∷ inputFields s ∷ switchFields s ∷ nameFields s ∷ modelFields s ∷ pendingFields s ∷ pairFields s ∷ []
@@ -111,9 +127,25 @@ allFine [] = true
 allFine (f ∷ fs) = f .fine && allFine fs
 
 -- "It is well formed when each field is in its range"
-unfoldable pub wellFormed : List ℕ → Bool
+unfoldable pub wellIn : Plan → List ℕ → Bool
 unfolding nameRange allZero zerosBehind waits serial look key
-wellFormed s = eqb (length s) recordSize && allFine (fieldsOf s)
+wellIn p s = eqb (length s) (planSize p) && allFine (fieldsIn p s)
+
+unfoldable pub wellFormed : List ℕ → Bool
+unfolding wellIn
+wellFormed s = wellIn current s
+
+-- the place of the first field that is not as it has to be; that of a wrong buffer length is that of the length field
+pub data Fault : Type 0 where
+  NoFault : Fault
+  FaultAt : ℕ → Fault
+
+abbrev pub firstFault : List Field → Fault
+firstFault [] = NoFault
+firstFault (f ∷ fs) = cond (f .fine) (firstFault fs) (FaultAt (f .place))
+
+unfoldable pub faultIn : Plan → List ℕ → Fault
+faultIn p s = cond (eqb (length s) (planSize p)) (firstFault (fieldsIn p s)) (FaultAt 0)
 
 -- what the check answers
 abbrev pub formBy : Bool → Form
@@ -123,8 +155,25 @@ formBy false = Bad
 abbrev pub formOf : List ℕ → Form
 formOf s = formBy (wellFormed s)
 
+-- what has to hold where a part is missing
+abbrev pub Unless : Bool → Type 0 → Type 0
+Unless true A = Unit {0}
+Unless false A = A
+
+-- what a layout without the radio's parts leaves zero or empty
+pub record Silent (g : Settings) (o : Outputs) : Type 0 where
+  pub power : g .power ≡ 0
+  pub step : g .step ≡ 0
+  pub mode : g .mode ≡ 0
+  pub on-off : g .onOff ≡ 0
+  pub inputs : g .inputs ≡ replicate 5 0
+  pub interval : g .interval ≡ 0
+  pub name : g .name ≡ []
+  pub outputs : o ≡ record { first = false; second = false; third = false; fourth = false }
+
 -- the same of a record value: each field in its range
-pub record InRange (r : Record) : Type 0 where
+pub record InRangeIn (p : Plan) (r : Record) : Type 0 where
+  pub opened : (p .opens || not (r .flags .opened)) ≡ true
   pub tries : r .tries ≤ 3
   pub code : r .code < 0x100000000
   pub power : powerRange (r .settings .power) ≡ Fits
@@ -135,14 +184,20 @@ pub record InRange (r : Record) : Type 0 where
   pub five : length (r .settings .inputs) ≡ 5
   pub inputs : (i : ℕ) → inputRange (getD (r .settings .inputs) i 0) ≡ Fits
   pub interval : intervalRange (r .settings .interval) ≡ Fits
-  pub filter : filterRange (r .settings .filter) ≡ Fits
+  pub filter : filterRange (p .filters) (r .settings .filter) ≡ Fits
   pub name-length : length (r .settings .name) ≤ 15
   pub name : nameRange (r .settings .name) ≡ Fits
   pub model-length : length (r .model) ≤ 15
   pub model : beforeZero (r .model) ≡ r .model
   pub model-bytes : Bytes (r .model)
-  pub pending : waits serial (r .pending) ≡ true
+  pub pending : waits (p .heads) (r .pending) ≡ true
   pub pending-bytes : Bytes (r .pending)
-  pub six : length (r .pairs) ≡ channels
+  pub six : length (r .pairs) ≡ p .channels
   pub words : (i : ℕ) → (getD (r .pairs) i noPair .greatest < 0x100000000) × (getD (r .pairs) i noPair .smallest < 0x100000000)
-  pub pairs : (i : ℕ) → i < channels → pairFits (r .flags .reading) (getD (r .pairs) i noPair) ≡ true
+  pub pairs : (i : ℕ) → i < p .channels → pairFits (r .flags .reading) (getD (r .pairs) i noPair) ≡ true
+  pub counter : r .counter < 0x10000
+  pub silent : Unless (has (p .parts) PowerHalf) (Silent (r .settings) (r .outputs))
+  pub uncounted : Unless (has (p .parts) CounterHalf) (r .counter ≡ 0)
+
+abbrev pub InRange : Record → Type 0
+InRange r = InRangeIn current r

@@ -1,78 +1,222 @@
--- The 123 bytes of a record: the place of each field, the bytes of a record value, and the value that bytes stand for.
-use Prim.Native.Nat.{ℕ, zero, _+_, _*_, _/_, _%_}
-use mathlib.Core.Bool.{Bool, true, false}
-use mathlib.Core.List.{List, _∷_, _++_}
+-- The bytes of a record: the parts that there are, a layout as a list of them, the bytes of a record value, and the value that bytes stand for.
+-- Where each part of a layout stands is a sum over the parts before it; `Places` has the tables.
+use Prim.Native.Nat.{ℕ, zero, suc, _+_, _*_, _/_, _%_}
+use mathlib.Core.Bool.{Bool, true, false, cond, not, _&&_, _||_}
+use mathlib.Core.List.{List, [], _∷_, _++_}
 use lib.ListN.{length, getD, take}
-use lib.Dec.{eqb}
+use lib.Dec.{eqb, leb}
 use Rattle.wire.specs.Numbers.{halfAt, wordAt, bytes2, bytes4, bytesAt}
+use Rattle.wire.specs.Frames.{Heads}
+use Rattle.wire.specs.Serial.{Fixed, Bad, fronted, closed, serial}
 use Rattle.peak.specs.Pairs.{pairsAt, pairsBytes}
 use Rattle.record.specs.Record.{Flags, Outputs, Record}
 use Rattle.record.specs.Limits.{beforeZero}
 
+-- ---- the parts that a record can have
+
+pub data Part : Type 0 where
+  SizeBytes : Part
+  VersionByte : Part
+  FlagByte : Part
+  TriesByte : Part
+  CodeWord : Part
+  PowerHalf : Part
+  StepByte : Part
+  ModeByte : Part
+  OnOffByte : Part
+  InputBytes : Part
+  OutputByte : Part
+  IntervalByte : Part
+  FilterWord : Part
+  NamePart : Part
+  ModelPart : Part
+  PendingPart : Part
+  PairsPart : Part
+  CounterHalf : Part
+
+abbrev pub tag : Part → ℕ
+tag SizeBytes = 0
+tag VersionByte = 1
+tag FlagByte = 2
+tag TriesByte = 3
+tag CodeWord = 4
+tag PowerHalf = 5
+tag StepByte = 6
+tag ModeByte = 7
+tag OnOffByte = 8
+tag InputBytes = 9
+tag OutputByte = 10
+tag IntervalByte = 11
+tag FilterWord = 12
+tag NamePart = 13
+tag ModelPart = 14
+tag PendingPart = 15
+tag PairsPart = 16
+tag CounterHalf = 17
+
+abbrev pub allParts : List Part
+allParts = SizeBytes ∷ VersionByte ∷ FlagByte ∷ TriesByte ∷ CodeWord ∷ PowerHalf ∷ StepByte ∷ ModeByte ∷ OnOffByte ∷ InputBytes ∷ OutputByte ∷ IntervalByte ∷ FilterWord ∷ NamePart ∷ ModelPart ∷ PendingPart ∷ PairsPart ∷ CounterHalf ∷ []
+
+abbrev pub same : Part → Part → Bool
+same a b = eqb (tag a) (tag b)
+
+abbrev pub has : List Part → Part → Bool
+has [] q = false
+has (x ∷ ps) q = same q x || has ps q
+
+abbrev pub distinct : List Part → Bool
+distinct [] = true
+distinct (x ∷ ps) = not (has ps x) && distinct ps
+
+-- ---- a layout
+
+-- its version byte; the room for pending bytes and the heads that they go by; its channels; the filter words are below `filters`; whether there is a configuration mode to open; its parts in record order
+pub record Plan : Type 0 where
+  pub version : ℕ
+  pub room : ℕ
+  pub heads : Heads
+  pub channels : ℕ
+  pub filters : ℕ
+  pub opens : Bool
+  pub parts : List Part
+
+abbrev pub width : Plan → Part → ℕ
+width p SizeBytes = 2
+width p VersionByte = 1
+width p FlagByte = 1
+width p TriesByte = 1
+width p CodeWord = 4
+width p PowerHalf = 2
+width p StepByte = 1
+width p ModeByte = 1
+width p OnOffByte = 1
+width p InputBytes = 5
+width p OutputByte = 1
+width p IntervalByte = 1
+width p FilterWord = 4
+width p NamePart = 16
+width p ModelPart = 15
+width p PendingPart = suc (p .room)
+width p PairsPart = p .channels * 8
+width p CounterHalf = 2
+
+-- size and places are sums over the widths of the parts
+module _ (w : Part → ℕ) where
+  abbrev pub sizeOf : List Part → ℕ
+  sizeOf [] = 0
+  sizeOf (x ∷ ps) = w x + sizeOf ps
+
+  -- a part that is not there stands behind the last
+  abbrev pub placeOf : List Part → Part → ℕ
+  placeOf [] q = 0
+  placeOf (x ∷ ps) q = cond (same q x) 0 (w x + placeOf ps q)
+
+-- the bytes of the parts, one behind the other
+abbrev pub lay : (Part → List ℕ) → List Part → List ℕ
+lay c [] = []
+lay c (x ∷ ps) = c x ++ lay c ps
+
+abbrev pub planSize : Plan → ℕ
+planSize p = sizeOf (width p) (p .parts)
+
+abbrev pub place : Plan → Part → ℕ
+place p q = placeOf (width p) (p .parts) q
+
+-- the bytes of a part, none if it is not there
+abbrev pub piece : Plan → List ℕ → Part → List ℕ
+piece p s q = cond (has (p .parts) q) (bytesAt (width p q) s (place p q)) []
+
+-- ---- the layouts
+
+abbrev pub boardParts : List Part
+boardParts = SizeBytes ∷ VersionByte ∷ FlagByte ∷ TriesByte ∷ CodeWord ∷ PowerHalf ∷ StepByte ∷ ModeByte ∷ OnOffByte ∷ InputBytes ∷ OutputByte ∷ IntervalByte ∷ FilterWord ∷ NamePart ∷ ModelPart ∷ PendingPart ∷ PairsPart ∷ []
+
+-- the board's record
+abbrev pub plan1 : Plan
+plan1 = record { version = 1; room = 18; heads = serial; channels = 6; filters = 64; opens = true; parts = boardParts }
+
+-- one waiting byte more; no call takes it yet, nor those that follow
+abbrev pub plan2 : Plan
+plan2 = record { version = 2; room = 19; heads = serial; channels = 6; filters = 64; opens = true; parts = boardParts }
+
+-- with a counter at its end
+abbrev pub plan3 : Plan
+plan3 = record { version = 3; room = 19; heads = serial; channels = 6; filters = 64; opens = true; parts = boardParts ++ (CounterHalf ∷ []) }
+
+-- "9n" alone
+unfoldable pub seatHeads : Heads
+seatHeads = fronted (λ b. cond (leb 0x90 b && leb b 0x9F) (Fixed (b % 16)) Bad) closed
+
+-- a board without radio: eight channels, 16 filter bits, no configuration mode
+abbrev pub seat : Plan
+seat = record { version = 8; room = 19; heads = seatHeads; channels = 8; filters = 65536; opens = false; parts = SizeBytes ∷ VersionByte ∷ FlagByte ∷ TriesByte ∷ CodeWord ∷ FilterWord ∷ ModelPart ∷ PendingPart ∷ PairsPart ∷ [] }
+
+-- the layout that all calls take
+abbrev pub current : Plan
+current = plan1
+
 abbrev pub recordSize : ℕ
-recordSize = 123
+recordSize = planSize current
 
 abbrev pub version : ℕ
-version = 1
+version = current .version
 
 abbrev pub channels : ℕ
-channels = 6
+channels = current .channels
 
 -- at most so many bytes wait
 abbrev pub pendingRoom : ℕ
-pendingRoom = 18
+pendingRoom = current .room
 
--- ---- places
+-- ---- places of the current layout
 
 abbrev pub atVersion : ℕ
-atVersion = 2
+atVersion = place current VersionByte
 
 abbrev pub atFlags : ℕ
-atFlags = 3
+atFlags = place current FlagByte
 
 abbrev pub atTries : ℕ
-atTries = 4
+atTries = place current TriesByte
 
 abbrev pub atCode : ℕ
-atCode = 5
+atCode = place current CodeWord
 
 abbrev pub atPower : ℕ
-atPower = 9
+atPower = place current PowerHalf
 
 abbrev pub atStep : ℕ
-atStep = 11
+atStep = place current StepByte
 
 abbrev pub atMode : ℕ
-atMode = 12
+atMode = place current ModeByte
 
 abbrev pub atOnOff : ℕ
-atOnOff = 13
+atOnOff = place current OnOffByte
 
 abbrev pub atInputs : ℕ
-atInputs = 14
+atInputs = place current InputBytes
 
 abbrev pub atOutputs : ℕ
-atOutputs = 19
+atOutputs = place current OutputByte
 
 abbrev pub atInterval : ℕ
-atInterval = 20
+atInterval = place current IntervalByte
 
 abbrev pub atFilter : ℕ
-atFilter = 21
+atFilter = place current FilterWord
 
--- the length of the name; its bytes follow
 abbrev pub atName : ℕ
-atName = 25
+atName = place current NamePart
 
 abbrev pub atModel : ℕ
-atModel = 41
+atModel = place current ModelPart
 
--- the number of pending bytes; they follow
 abbrev pub atPending : ℕ
-atPending = 56
+atPending = place current PendingPart
 
 abbrev pub atPairs : ℕ
-atPairs = atPending + 1 + pendingRoom
+atPairs = place current PairsPart
 
 -- ---- four bits in a byte
 
@@ -95,38 +239,64 @@ outputsByte o = nibble (o .first) (o .second) (o .third) (o .fourth)
 abbrev pub bitOf : ℕ → ℕ → Bool
 bitOf b unit = eqb (b / unit % 2) 1
 
--- ---- the bytes of a record, in record order
+-- ---- the bytes of a record, part by part
+
+abbrev pub chunk : Plan → Record → Part → List ℕ
+chunk p r SizeBytes = bytes2 (planSize p)
+chunk p r VersionByte = p .version ∷ []
+chunk p r FlagByte = flagsByte (r .flags) ∷ []
+chunk p r TriesByte = r .tries ∷ []
+chunk p r CodeWord = bytes4 (r .code)
+chunk p r PowerHalf = bytes2 (r .settings .power)
+chunk p r StepByte = r .settings .step ∷ []
+chunk p r ModeByte = r .settings .mode ∷ []
+chunk p r OnOffByte = r .settings .onOff ∷ []
+chunk p r InputBytes = bytesAt 5 (r .settings .inputs) 0
+chunk p r OutputByte = outputsByte (r .outputs) ∷ []
+chunk p r IntervalByte = r .settings .interval ∷ []
+chunk p r FilterWord = bytes4 (r .settings .filter)
+chunk p r NamePart = length (r .settings .name) ∷ bytesAt 15 (r .settings .name) 0
+chunk p r ModelPart = bytesAt 15 (r .model) 0
+chunk p r PendingPart = length (r .pending) ∷ bytesAt (p .room) (r .pending) 0
+chunk p r PairsPart = pairsBytes (p .channels) (r .pairs) 0
+chunk p r CounterHalf = bytes2 (r .counter)
+
+unfoldable pub bytesIn : Plan → Record → List ℕ
+bytesIn p r = lay (chunk p r) (p .parts)
 
 unfoldable pub bytesOf : Record → List ℕ
-bytesOf r =
-    bytes2 recordSize ++ (version ∷ flagsByte (r .flags) ∷ r .tries ∷ bytes4 (r .code) ++ (bytes2 (r .settings .power)
-    ++ (r .settings .step ∷ r .settings .mode ∷ r .settings .onOff ∷ bytesAt 5 (r .settings .inputs) 0
-    ++ (outputsByte (r .outputs) ∷ r .settings .interval ∷ bytes4 (r .settings .filter)
-    ++ (length (r .settings .name) ∷ bytesAt 15 (r .settings .name) 0
-    ++ (bytesAt 15 (r .model) 0
-    ++ (length (r .pending) ∷ bytesAt pendingRoom (r .pending) 0
-    ++ pairsBytes channels (r .pairs) 0)))))))
+unfolding bytesIn
+bytesOf r = bytesIn current r
 
--- ---- the record that bytes stand for
+-- ---- the record that bytes stand for; a part that is not there is zero or empty
+
+unfoldable pub valueOf : Plan → (Part → List ℕ) → Record
+unfolding beforeZero
+valueOf p c = record {
+  flags = record { opened = bitOf (getD (c FlagByte) 0 0) 1; unlocked = bitOf (getD (c FlagByte) 0 0) 2; sending = bitOf (getD (c FlagByte) 0 0) 4; reading = bitOf (getD (c FlagByte) 0 0) 8 };
+  tries = getD (c TriesByte) 0 0;
+  code = wordAt (c CodeWord) 0;
+  settings = record {
+    power = halfAt (c PowerHalf) 0;
+    step = getD (c StepByte) 0 0;
+    mode = getD (c ModeByte) 0 0;
+    onOff = getD (c OnOffByte) 0 0;
+    inputs = bytesAt 5 (c InputBytes) 0;
+    interval = getD (c IntervalByte) 0 0;
+    filter = wordAt (c FilterWord) 0;
+    name = take (getD (c NamePart) 0 0) (bytesAt 15 (c NamePart) 1);
+  };
+  outputs = record { first = bitOf (getD (c OutputByte) 0 0) 1; second = bitOf (getD (c OutputByte) 0 0) 2; third = bitOf (getD (c OutputByte) 0 0) 4; fourth = bitOf (getD (c OutputByte) 0 0) 8 };
+  model = beforeZero (bytesAt 15 (c ModelPart) 0);
+  pending = take (getD (c PendingPart) 0 0) (bytesAt (p .room) (c PendingPart) 1);
+  pairs = pairsAt (p .channels) (c PairsPart) 0;
+  counter = halfAt (c CounterHalf) 0;
+}
+
+unfoldable pub recordIn : Plan → List ℕ → Record
+unfolding valueOf
+recordIn p s = valueOf p (piece p s)
 
 unfoldable pub recordOf : List ℕ → Record
-unfolding beforeZero
-recordOf s = record {
-  flags = record { opened = bitOf (getD s atFlags 0) 1; unlocked = bitOf (getD s atFlags 0) 2; sending = bitOf (getD s atFlags 0) 4; reading = bitOf (getD s atFlags 0) 8 };
-  tries = getD s atTries 0;
-  code = wordAt s atCode;
-  settings = record {
-    power = halfAt s atPower;
-    step = getD s atStep 0;
-    mode = getD s atMode 0;
-    onOff = getD s atOnOff 0;
-    inputs = bytesAt 5 s atInputs;
-    interval = getD s atInterval 0;
-    filter = wordAt s atFilter;
-    name = take (getD s atName 0) (bytesAt 15 s (atName + 1));
-  };
-  outputs = record { first = bitOf (getD s atOutputs 0) 1; second = bitOf (getD s atOutputs 0) 2; third = bitOf (getD s atOutputs 0) 4; fourth = bitOf (getD s atOutputs 0) 8 };
-  model = beforeZero (bytesAt 15 s atModel);
-  pending = take (getD s atPending 0) (bytesAt pendingRoom s (atPending + 1));
-  pairs = pairsAt channels s atPairs;
-}
+unfolding recordIn
+recordOf s = recordIn current s

@@ -1,6 +1,8 @@
 pub mod Record
 pub mod Limits
 pub mod Layout
+pub mod Laid
+pub mod Places
 pub mod Form
 pub mod Births
 pub mod Reading

@@ -37,9 +37,9 @@ intervalOf v = cond (ltZ (pos 59) v) Big (cond (ltZ v (pos 0) || (ltZ (pos 0) v 
 abbrev pub intervalRange : ℕ → Range
 intervalRange b = intervalOf (signed8 b)
 
--- filter word: "any bit above bit 5 is 54"
-abbrev pub filterRange : ℕ → Range
-filterRange w = cond (ltb w 64) Fits Big
+-- filter word: "any bit above bit 5 is 54"; the bound is the layout's
+abbrev pub filterRange : ℕ → ℕ → Range
+filterRange bound w = cond (ltb w bound) Fits Big
 
 -- name: "a byte above 7F is 54"
 abbrev pub nameByte : ℕ → Range

@@ -1,10 +1,12 @@
 -- What code does to a record in place: its bytes are those of a value, before and after.
 use Prim.Native.Nat.{ℕ}
 use mathlib.Core.Path.{_≡_}
+use mathlib.Core.Bool.{true}
 use mathlib.Core.List.{List}
 use Rattle.record.specs.Record.{Record}
-use Rattle.record.specs.Layout.{bytesOf, recordOf}
-use Rattle.record.specs.Form.{InRange}
+use Rattle.record.specs.Layout.{Part, PendingPart, Plan, has, place, bytesIn, bytesOf, recordOf}
+use Rattle.record.specs.Laid.{Laid}
+use Rattle.record.specs.Form.{InRangeIn, InRange}
 
 -- the bytes are those of r, which is in range
 pub record Holds (r : Record) (s : List ℕ) : Type 0 where
@@ -22,3 +24,14 @@ Turns s t f = (r : Record) → InRange r → s ≡ bytesOf r → t ≡ bytesOf (
 -- whatever record in range the bytes s are, v is what f says of it
 abbrev pub Shows : {A : Type 0} → List ℕ → A → (Record → A) → Type 0
 Shows s v f = (r : Record) → InRange r → s ≡ bytesOf r → v ≡ f r
+
+-- the same in a layout, and in every layout that has a part at a place: what code shared by boards promises
+abbrev pub TurnsIn : Plan → List ℕ → List ℕ → (Record → Record) → Type 0
+TurnsIn p s t f = (r : Record) → InRangeIn p r → s ≡ bytesIn p r → t ≡ bytesIn p (f r)
+
+abbrev pub TurnsAt : Part → ℕ → List ℕ → List ℕ → (Record → Record) → Type 0
+TurnsAt q at s t f = (p : Plan) → Laid p → has (p .parts) q ≡ true → place p q ≡ at → TurnsIn p s t f
+
+-- the pending bytes also by their room
+abbrev pub TurnsPending : ℕ → ℕ → List ℕ → List ℕ → (Record → Record) → Type 0
+TurnsPending at room s t f = (p : Plan) → Laid p → place p PendingPart ≡ at → p .room ≡ room → TurnsIn p s t f

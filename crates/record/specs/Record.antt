@@ -39,6 +39,7 @@ pub record Record : Type 0 where
   pub model : List ℕ
   pub pending : List ℕ
   pub pairs : List Pair
+  pub counter : ℕ
 
 -- ---- one field set
 
@@ -83,25 +84,28 @@ abbrev pub withName : Settings → List ℕ → Settings
 withName g v = record { power = g .power; step = g .step; mode = g .mode; onOff = g .onOff; inputs = g .inputs; interval = g .interval; filter = g .filter; name = v }
 
 unfoldable pub withFlags : Record → Flags → Record
-withFlags r v = record { flags = v; tries = r .tries; code = r .code; settings = r .settings; outputs = r .outputs; model = r .model; pending = r .pending; pairs = r .pairs }
+withFlags r v = record { flags = v; tries = r .tries; code = r .code; settings = r .settings; outputs = r .outputs; model = r .model; pending = r .pending; pairs = r .pairs; counter = r .counter }
 
 unfoldable pub withTries : Record → ℕ → Record
-withTries r v = record { flags = r .flags; tries = v; code = r .code; settings = r .settings; outputs = r .outputs; model = r .model; pending = r .pending; pairs = r .pairs }
+withTries r v = record { flags = r .flags; tries = v; code = r .code; settings = r .settings; outputs = r .outputs; model = r .model; pending = r .pending; pairs = r .pairs; counter = r .counter }
 
 unfoldable pub withCode : Record → ℕ → Record
-withCode r v = record { flags = r .flags; tries = r .tries; code = v; settings = r .settings; outputs = r .outputs; model = r .model; pending = r .pending; pairs = r .pairs }
+withCode r v = record { flags = r .flags; tries = r .tries; code = v; settings = r .settings; outputs = r .outputs; model = r .model; pending = r .pending; pairs = r .pairs; counter = r .counter }
 
 unfoldable pub withSettings : Record → Settings → Record
-withSettings r v = record { flags = r .flags; tries = r .tries; code = r .code; settings = v; outputs = r .outputs; model = r .model; pending = r .pending; pairs = r .pairs }
+withSettings r v = record { flags = r .flags; tries = r .tries; code = r .code; settings = v; outputs = r .outputs; model = r .model; pending = r .pending; pairs = r .pairs; counter = r .counter }
 
 unfoldable pub withOutputs : Record → Outputs → Record
-withOutputs r v = record { flags = r .flags; tries = r .tries; code = r .code; settings = r .settings; outputs = v; model = r .model; pending = r .pending; pairs = r .pairs }
+withOutputs r v = record { flags = r .flags; tries = r .tries; code = r .code; settings = r .settings; outputs = v; model = r .model; pending = r .pending; pairs = r .pairs; counter = r .counter }
 
 unfoldable pub withModel : Record → List ℕ → Record
-withModel r v = record { flags = r .flags; tries = r .tries; code = r .code; settings = r .settings; outputs = r .outputs; model = v; pending = r .pending; pairs = r .pairs }
+withModel r v = record { flags = r .flags; tries = r .tries; code = r .code; settings = r .settings; outputs = r .outputs; model = v; pending = r .pending; pairs = r .pairs; counter = r .counter }
 
 unfoldable pub withPending : Record → List ℕ → Record
-withPending r v = record { flags = r .flags; tries = r .tries; code = r .code; settings = r .settings; outputs = r .outputs; model = r .model; pending = v; pairs = r .pairs }
+withPending r v = record { flags = r .flags; tries = r .tries; code = r .code; settings = r .settings; outputs = r .outputs; model = r .model; pending = v; pairs = r .pairs; counter = r .counter }
 
 unfoldable pub withPairs : Record → List Pair → Record
-withPairs r v = record { flags = r .flags; tries = r .tries; code = r .code; settings = r .settings; outputs = r .outputs; model = r .model; pending = r .pending; pairs = v }
+withPairs r v = record { flags = r .flags; tries = r .tries; code = r .code; settings = r .settings; outputs = r .outputs; model = r .model; pending = r .pending; pairs = v; counter = r .counter }
+
+unfoldable pub withCounter : Record → ℕ → Record
+withCounter r v = record { flags = r .flags; tries = r .tries; code = r .code; settings = r .settings; outputs = r .outputs; model = r .model; pending = r .pending; pairs = r .pairs; counter = v }

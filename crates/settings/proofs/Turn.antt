@@ -1,20 +1,24 @@
 -- A store in the bytes of a record is the change of its field, in the words of the code that stores.
 use Prim.Native.Nat.{ℕ, zero, suc, _+_, _-_, _*_, _%_, _^_, _≤_}
-use mathlib.Core.Path.{_≡_, refl}
+use mathlib.Core.Path.{_≡_, refl, sym, ap, subst, _∙_}
 use mathlib.Core.Bool.{true, false}
-use mathlib.Core.List.{List}
+use mathlib.Core.List.{List, [], _∷_}
 use native.Mathlib.Nat.{not-suc-le-zero}
 use native.Mathlib.Omega.{arith}
 use lib.ListN.{getD, set}
+use native.Mathlib.Numerals.{towards-suc}
+use lib.Seq.{sets}
 use lib.Dec.{leb, eqb}
 use lib.Bits.{bitAnd, bitOr}
 use borrow.Author.Tests.{eq-eqb, ne-eqb, eqb-true, leb-true}
-use Rattle.wire.specs.Numbers.{Bytes, halfAt, wordAt}
+use Rattle.wire.specs.Numbers.{Bytes, halfAt, wordAt, bytes4}
 use Rattle.record.specs.Record.{withOutput, withPower, withStep, withMode, withOnOff, withInputs, withInterval, withFilter, withSettings, withOutputs}
-use Rattle.record.specs.Layout.{atPower, atStep, atMode, atOnOff, atInputs, atOutputs, atInterval, atFilter}
-use Rattle.record.specs.Place.{Turns}
+use Rattle.record.specs.Layout.{atPower, atStep, atMode, atOnOff, atInputs, atOutputs, atInterval, FilterWord, bytesIn}
+use Rattle.record.specs.Place.{Turns, TurnsAt}
 use Rattle.record.proofs.Choices.{below-each}
-use Rattle.record.proofs.Lens.{set-step, set-mode, set-on-off, set-interval, set-output, set-power, set-filter, set-input}
+use Rattle.record.proofs.Lens.{set-step, set-mode, set-on-off, set-interval, set-output, set-power, set-input}
+use Rattle.record.proofs.Stores.{set-filterIn}
+use Rattle.wire.proofs.NumberLaws.{word-bytes}
 
 module _ (s : List ℕ) where
   module _ (v : ℕ) where
@@ -50,9 +54,13 @@ module _ (s : List ℕ) where
     pub turn-power : Turns s (set (set s atPower (getD p 0 0)) (atPower + 1) (getD p 1 0)) (λ r. withSettings r (withPower (r .settings) (halfAt p 0)))
     turn-power r i e = rw e (set-power r (getD p 0 0) (getD p 1 0) (b 0) (b 1))
 
-    pub turn-filter : Turns s (set (set (set (set s atFilter (getD p 0 0)) (atFilter + 1) (getD p 1 0)) (atFilter + 2) (getD p 2 0)) (atFilter + 3) (getD p 3 0))
+    pub turn-filter : (at : ℕ) → TurnsAt FilterWord at s (set (set (set (set s at (getD p 0 0)) (at + 1) (getD p 1 0)) (at + 2) (getD p 2 0)) (at + 3) (getD p 3 0))
         (λ r. withSettings r (withFilter (r .settings) (wordAt p 0)))
-    turn-filter r i e = rw e (set-filter r (getD p 0 0) (getD p 1 0) (getD p 2 0) (getD p 3 0) (b 0) (b 1) (b 2) (b 3))
+    turn-filter at q laid has at-is r i e =
+        let four : sets s at (bytes4 (wordAt p 0)) ≡ bytesIn q (withSettings r (withFilter (r .settings) (wordAt p 0))) =
+        rw e (subst (λ (k : ℕ). sets (bytesIn q r) k (bytes4 (wordAt p 0)) ≡ bytesIn q (withSettings r (withFilter (r .settings) (wordAt p 0)))) at-is (set-filterIn q laid r (wordAt p 0))) in
+        let run : set (set (set (set s at (getD p 0 0)) (at + 1) (getD p 1 0)) (at + 2) (getD p 2 0)) (at + 3) (getD p 3 0) ≡ sets s at (getD p 0 0 ∷ getD p 1 0 ∷ getD p 2 0 ∷ getD p 3 0 ∷ []) = simp towards-suc in
+        run ∙ ap (sets s at) (sym (word-bytes (getD p 0 0) (getD p 1 0) (getD p 2 0) (getD p 3 0) (b 0) (b 1) (b 2) (b 3))) ∙ four
 
 -- 1 shifted to the bit of output k
 pub mask-is : (k : ℕ) → 1 ≤ k → k ≤ 4 → (1 * 2 ^ (k - 1) % 256 ≡ 2 ^ (k - 1)) × (1 * 2 ^ (k - 1) % 256 ≤ 8)

@@ -1,11 +1,12 @@
 // Settings and outputs of a record stored in its bytes, one function for each change that a command can make.
 ghost use mathlib.Core.Path.{_≡_};
-ghost use Prim.Native.Nat.{_-_, _^_, _≤_};
+ghost use Prim.Native.Nat.{_+_, _-_, _^_, _≤_};
 ghost use lib.ListN.{length, set};
 ghost use lib.Dec.{eqb};
 ghost use Rattle.wire.specs.Numbers.{halfAt, wordAt};
 ghost use Rattle.record.specs.Record.{withOutput, withPower, withStep, withMode, withOnOff, withInputs, withInterval, withFilter, withSettings, withOutputs};
-ghost use Rattle.record.specs.Place.{Turns};
+ghost use Rattle.record.specs.Place.{Turns, TurnsAt};
+ghost use Rattle.record.specs.Layout.{FilterWord};
 
 pub fn set_power(rec: &mut [u8], p: &[u8])
     requires { ⌜ length (now rec) ≡ 123 ⌝ }
@@ -74,13 +75,14 @@ pub fn set_interval(rec: &mut [u8], v: u8)
     rec[20] = v;
 }
 
-pub fn set_filter(rec: &mut [u8], p: &[u8])
-    requires { ⌜ length (now rec) ≡ 123 ⌝ }
+// At the place that the layout gives the filter word.
+pub fn set_filter(rec: &mut [u8], at: usize, p: &[u8])
+    requires { ⌜ at + 4 ≤ length (now rec) ⌝ }
     requires { ⌜ length (now p) ≡ 4 ⌝ }
-    ensures { λ _. ⌜ Turns (now (rec .entry)) (now (rec .exit)) (λ r. withSettings r (withFilter (r .settings) (wordAt (now (p .entry)) 0))) ⌝ }
+    ensures { λ _. ⌜ TurnsAt FilterWord at (now (rec .entry)) (now (rec .exit)) (λ r. withSettings r (withFilter (r .settings) (wordAt (now (p .entry)) 0))) ⌝ }
 {
-    rec[21] = p[0];
-    rec[22] = p[1];
-    rec[23] = p[2];
-    rec[24] = p[3];
+    rec[at] = p[0];
+    rec[at + 1] = p[1];
+    rec[at + 2] = p[2];
+    rec[at + 3] = p[3];
 }

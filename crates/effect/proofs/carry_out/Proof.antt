@@ -1,9 +1,11 @@
 use native.Mathlib.Omega.{arith}
-use mathlib.Core.Path.{_≡_}
+use mathlib.Core.Path.{_≡_, refl}
 use mathlib.Core.List.{List}
 use Prim.Native.Nat.{ℕ}
 use native.Mathlib.Nat.{le-antisymm}
 use Rattle.record.specs.Place.{Turns}
+use Rattle.record.specs.Layout.{FlagByte, FilterWord, ModelPart}
+use Rattle.record.proofs.PlaceLaws.{here}
 use Rattle.command.specs.declared.Command.{Command}
 use Rattle.command.specs.declared.Command.the-variants.{Open, Close, ReadPower, SetPower, ReadStep, SetStep, ReadMode, SetMode, ReadName, SetName, ReadOnOff, SetOnOff, SetInput, ReadInput, SwitchOutput, SetInterval, ReadInterval, Unlock, ReadLock, ReadModel, SetModel, StopSending, StartSending, ReadFilter, SetFilter, ReadPair}
 use Rattle.command.specs.Tables.{spanOf}
@@ -168,7 +170,7 @@ unfolding spanOf
 set-model-requires c κs =
     let z = c .before .before .before .before .before in
     let g = passed (c .before .before .before) SetModel (c .before .enum-told21 .given .1) in
-    (z .pre .0, g .most)
+    ((omega (arith, z .pre .0), omega arith), g .most)
 
 enum-told-22 : tie.Need-enum-told-22
 enum-told-22 c = search needs
@@ -193,7 +195,7 @@ unfolding spanOf
 set-filter-requires c κs =
     let z = c .before .before .before .before .before in
     let g = passed (c .before .before .before) SetFilter (c .before .enum-told25 .given .1) in
-    (z .pre .0, le-antisymm (g .most) (g .least))
+    (omega (arith, z .pre .0), le-antisymm (g .most) (g .least))
 
 enum-told-26 : tie.Need-enum-told-26
 enum-told-26 c = search needs
@@ -203,14 +205,14 @@ same-length c = search needs
 
 returns : tie.Need-returns
 unfolding effectOf
-returns c = turns (c .before .before .before .before .before .before) Open (c .before .before .before .before .enum-told .given .1) (c .before .before .open-mode .ensures)
+returns c = turns (c .before .before .before .before .before .before) Open (c .before .before .before .before .enum-told .given .1) (here FlagByte 3 _ _ _ refl refl (c .before .before .open-mode .ensures))
 
 same-length-2 : tie.Need-same-length-2
 same-length-2 c = search needs
 
 returns-2 : tie.Need-returns-2
 unfolding effectOf
-returns-2 c = turns (c .before .before .before .before .before .before) Close (c .before .before .before .before .enum-told2 .given .1) (c .before .before .close-mode .ensures)
+returns-2 c = turns (c .before .before .before .before .before .before) Close (c .before .before .before .before .enum-told2 .given .1) (here FlagByte 3 _ _ _ refl refl (c .before .before .close-mode .ensures))
 
 returns-3 : tie.Need-returns-3
 unfolding effectOf
@@ -301,7 +303,7 @@ same-length-11 c = search needs
 
 returns-18 : tie.Need-returns-18
 unfolding effectOf
-returns-18 c = turns (c .before .before .before .before .before .before) Unlock (c .before .before .before .before .enum-told18 .given .1) (c .before .before .unlock .ensures)
+returns-18 c = turns (c .before .before .before .before .before .before) Unlock (c .before .before .before .before .enum-told18 .given .1) (here FlagByte 3 _ _ _ refl refl (c .before .before .unlock .ensures))
 
 returns-19 : tie.Need-returns-19
 unfolding effectOf
@@ -316,21 +318,21 @@ same-length-12 c = search needs
 
 returns-21 : tie.Need-returns-21
 unfolding effectOf
-returns-21 c = turns (c .before .before .before .before .before .before) SetModel (c .before .before .before .before .enum-told21 .given .1) (c .before .before .set-model .ensures)
+returns-21 c = turns (c .before .before .before .before .before .before) SetModel (c .before .before .before .before .enum-told21 .given .1) (here ModelPart 41 _ _ _ refl refl (c .before .before .set-model .ensures))
 
 same-length-13 : tie.Need-same-length-13
 same-length-13 c = search needs
 
 returns-22 : tie.Need-returns-22
 unfolding effectOf
-returns-22 c = turns (c .before .before .before .before .before .before) StopSending (c .before .before .before .before .enum-told22 .given .1) (c .before .before .stop-sending .ensures)
+returns-22 c = turns (c .before .before .before .before .before .before) StopSending (c .before .before .before .before .enum-told22 .given .1) (here FlagByte 3 _ _ _ refl refl (c .before .before .stop-sending .ensures))
 
 same-length-14 : tie.Need-same-length-14
 same-length-14 c = search needs
 
 returns-23 : tie.Need-returns-23
 unfolding effectOf
-returns-23 c = turns (c .before .before .before .before .before .before) StartSending (c .before .before .before .before .enum-told23 .given .1) (c .before .before .start-sending .ensures)
+returns-23 c = turns (c .before .before .before .before .before .before) StartSending (c .before .before .before .before .enum-told23 .given .1) (here FlagByte 3 _ _ _ refl refl (c .before .before .start-sending .ensures))
 
 returns-24 : tie.Need-returns-24
 unfolding effectOf
@@ -341,7 +343,7 @@ same-length-15 c = search needs
 
 returns-25 : tie.Need-returns-25
 unfolding effectOf
-returns-25 c = turns (c .before .before .before .before .before .before) SetFilter (c .before .before .before .before .enum-told25 .given .1) (c .before .before .set-filter .ensures)
+returns-25 c = turns (c .before .before .before .before .before .before) SetFilter (c .before .before .before .before .enum-told25 .given .1) (here FilterWord 21 _ _ _ refl refl (c .before .before .set-filter .ensures))
 
 returns-26 : tie.Need-returns-26
 unfolding effectOf

@@ -1,4 +1,6 @@
-use Rattle.hunt.proofs.JoinLaws.{rests-kept, rests-short, rests}
+use mathlib.Core.Path.{refl}
+use Rattle.record.proofs.PlaceLaws.{here-pending}
+use Rattle.hunt.proofs.JoinLaws.{roomed, rests-kept, rests-short, rests}
 use borrow.Author.Needs.{needs}
 use Rattle.hunt.proofs.hunt_rest.Statement.{statement}
 use Rattle.hunt.proofs.hunt_rest.Tie as tie
@@ -16,7 +18,7 @@ part-set-pending-end : tie.Need-part-set-pending-end
 part-set-pending-end c = search needs
 
 set-pending-requires : tie.Need-set-pending-requires
-set-pending-requires c κs = (rests-kept (c .before .before .before .before .before .before .before .before .before .before .before .before .args .rec .now) (c .before .before .before .before .before .before .before .before .before .before .before .before .args .s .now) (c .before .before .before .before .before .before .before .before .before .before .before .before .args .out .now) (c .before .before .before .before .before .before .before .before .before .before .before .before .args .start) (c .before .before .before .before .before .before .hunt-in .result) (c .before .before .before .before .before .before .hunt-in .last .0) (c .before .before .before .before .before .before .hunt-in .last .1 .1 .1 .0) (c .before .before .before .before .before .before .hunt-in .ensures), rests-short (c .before .before .before .before .before .before .before .before .before .before .before .before .args .rec .now) (c .before .before .before .before .before .before .before .before .before .before .before .before .args .s .now) (c .before .before .before .before .before .before .before .before .before .before .before .before .args .out .now) (c .before .before .before .before .before .before .before .before .before .before .before .before .args .start) (c .before .before .before .before .before .before .hunt-in .result) (c .before .before .before .before .before .before .hunt-in .last .0) (c .before .before .before .before .before .before .hunt-in .last .1 .1 .1 .0) (c .before .before .before .before .before .before .hunt-in .ensures))
+set-pending-requires c κs = roomed _ _ (rests-kept (c .before .before .before .before .before .before .before .before .before .before .before .before .args .rec .now) (c .before .before .before .before .before .before .before .before .before .before .before .before .args .s .now) (c .before .before .before .before .before .before .before .before .before .before .before .before .args .out .now) (c .before .before .before .before .before .before .before .before .before .before .before .before .args .start) (c .before .before .before .before .before .before .hunt-in .result) (c .before .before .before .before .before .before .hunt-in .last .0) (c .before .before .before .before .before .before .hunt-in .last .1 .1 .1 .0) (c .before .before .before .before .before .before .hunt-in .ensures), rests-short (c .before .before .before .before .before .before .before .before .before .before .before .before .args .rec .now) (c .before .before .before .before .before .before .before .before .before .before .before .before .args .s .now) (c .before .before .before .before .before .before .before .before .before .before .before .before .args .out .now) (c .before .before .before .before .before .before .before .before .before .before .before .before .args .start) (c .before .before .before .before .before .before .hunt-in .result) (c .before .before .before .before .before .before .hunt-in .last .0) (c .before .before .before .before .before .before .hunt-in .last .1 .1 .1 .0) (c .before .before .before .before .before .before .hunt-in .ensures))
 
 same-length : tie.Need-same-length
 same-length c = search needs
@@ -25,7 +27,7 @@ same-length-2 : tie.Need-same-length-2
 same-length-2 c = search needs
 
 returns : tie.Need-returns
-returns c = rests (c .before .before .before .before .before .before .before .before .before .before .before .before .before .before .before .args .rec .now) (c .before .before .before .before .before .before .before .before .before .before .before .before .before .before .before .args .s .now) (c .before .before .before .before .before .before .before .before .before .before .before .before .before .before .before .args .out .now) (c .before .before .before .before .before .before .before .before .before .before .before .before .before .before .before .args .start) (c .before .before .before .before .before .before .before .before .before .hunt-in .result) (c .before .before .before .before .before .before .before .before .before .hunt-in .last .0) (c .before .before .before .before .before .before .before .before .before .hunt-in .last .1 .1 .1 .0) (c .before .before .before .before .before .before .before .before .before .hunt-in .ensures) _ (c .before .before .set-pending .ensures)
+returns c = rests (c .before .before .before .before .before .before .before .before .before .before .before .before .before .before .before .args .rec .now) (c .before .before .before .before .before .before .before .before .before .before .before .before .before .before .before .args .s .now) (c .before .before .before .before .before .before .before .before .before .before .before .before .before .before .before .args .out .now) (c .before .before .before .before .before .before .before .before .before .before .before .before .before .before .before .args .start) (c .before .before .before .before .before .before .before .before .before .hunt-in .result) (c .before .before .before .before .before .before .before .before .before .hunt-in .last .0) (c .before .before .before .before .before .before .before .before .before .hunt-in .last .1 .1 .1 .0) (c .before .before .before .before .before .before .before .before .before .hunt-in .ensures) _ (here-pending 56 18 _ _ _ refl refl (c .before .before .set-pending .ensures))
 
 pub hunt-rest-spec : {M : Type 1} → statement M
 hunt-rest-spec =

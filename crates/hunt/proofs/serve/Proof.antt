@@ -1,3 +1,4 @@
+use Rattle.record.proofs.PlaceLaws.{here-pending}
 use native.Mathlib.Omega.{arith}
 use Prim.Native.Nat.{ℕ, _+_, _-_, _*_, _/_, _≤_, _<_}
 use mathlib.Core.Path.{_≡_, refl, sym}
@@ -6,7 +7,7 @@ use lib.ListN.{length, getD, take, drop}
 use Rattle.record.specs.Place.{Sound}
 use Rattle.record.proofs.PlaceLaws.{holds-long}
 use Rattle.hunt.proofs.GoingLaws.{going-sound}
-use Rattle.hunt.proofs.JoinLaws.{held-is, held-few, total-is, stream-long, first-kept, short-first, serves-first, rest-long, from-inside, rest-fits, serves-second}
+use Rattle.hunt.proofs.JoinLaws.{roomed, held-is, held-few, total-is, stream-long, first-kept, short-first, serves-first, rest-long, from-inside, rest-fits, serves-second}
 use borrow.Author.Needs.{needs}
 use Rattle.hunt.proofs.serve.Statement.{statement}
 use Rattle.hunt.proofs.serve.Tie as tie
@@ -107,7 +108,7 @@ part-set-pending-end : tie.Need-part-set-pending-end
 part-set-pending-end c = let j = c .before .before .before .before .before .before .before .before .before .before .before .before in omega (arith, sum j, few j, j .join .kept)
 
 set-pending-requires : tie.Need-set-pending-requires
-set-pending-requires c κs = waits-short (c .before .before .before .before .before .before .before .before) (c .before .before .before .if1 .taken)
+set-pending-requires c κs = roomed _ _ (waits-short (c .before .before .before .before .before .before .before .before) (c .before .before .before .if1 .taken))
 
 same-length : tie.Need-same-length
 same-length c = search needs
@@ -119,7 +120,7 @@ returns : tie.Need-returns
 returns c =
     let f = c .before .before .before .before .before .before .before .before .before .before .before in
     let j = f .before .before .before .before .before in
-    serves-first (rec₀ j) (sound j) (input j) (out₀ j) (head j) (total j) (j .join .ensures) (f .hunt-in .result) (rec₁ f) (out₁ f) (f .hunt-in .ensures) (c .before .before .before .before .before .before .if1 .taken) _ (c .before .before .set-pending .ensures)
+    serves-first (rec₀ j) (sound j) (input j) (out₀ j) (head j) (total j) (j .join .ensures) (f .hunt-in .result) (rec₁ f) (out₁ f) (f .hunt-in .ensures) (c .before .before .before .before .before .before .if1 .taken) _ (here-pending 56 18 _ _ _ refl refl (c .before .before .set-pending .ensures))
 
 sub-hunt-rest : tie.Need-sub-hunt-rest
 sub-hunt-rest c = starts (c .before .before .before .before .before .before) (omega (arith, c .before .if1 .left))

@@ -1,10 +1,15 @@
+use Prim.Native.Nat.{_+_, _-_}
 use Rattle.parts.proofs.Turn.{turn-model}
+use native.Mathlib.Omega.{arith}
 use borrow.Author.Needs.{needs}
 use Rattle.parts.proofs.set_model.Statement.{statement}
 use Rattle.parts.proofs.set_model.Tie as tie
 
 first-zero-requires : tie.Need-first-zero-requires
 first-zero-requires c κs = search needs
+
+add-put-part : tie.Need-add-put-part
+add-put-part c = search needs
 
 sub-put-part : tie.Need-sub-put-part
 sub-put-part c = search needs
@@ -25,13 +30,14 @@ returns : tie.Need-returns
 returns c =
     let q = c .before .before .before .before .before in
     let a = q .before .before .before .args in
-    rw (c .before .before .put-part .ensures) (turn-model (a .rec .now) (a .p .now) (q .first-zero .result) (q .first-zero .ensures .0))
+    rw (c .before .before .put-part .ensures) (turn-model (a .rec .now) (a .p .now) (a .at) (a .at + 15 - a .at) (q .first-zero .result) (omega arith) (q .first-zero .ensures .0))
 
 pub set-model-spec : {M : Type 1} → statement M
 set-model-spec =
     tie.close
     (tie.spec
     first-zero-requires
+    add-put-part
     sub-put-part
     part-put-part-start
     part-put-part-end

@@ -1,3 +1,4 @@
+use Prim.Native.Nat.{_+_, _-_}
 use Rattle.parts.proofs.Turn.{turn-pending}
 use native.Mathlib.Omega.{arith}
 use lib.ListN.{length-set}
@@ -11,6 +12,15 @@ cast-rec c = search needs
 slice-write-rec : tie.Need-slice-write-rec
 slice-write-rec c = search needs
 
+add-put-part : tie.Need-add-put-part
+add-put-part c = search needs
+
+add-put-part-2 : tie.Need-add-put-part-2
+add-put-part-2 c = search needs
+
+add-put-part-3 : tie.Need-add-put-part-3
+add-put-part-3 c = search needs
+
 put-part-requires : tie.Need-put-part-requires
 put-part-requires c κs = simp length-set (omega arith)
 
@@ -20,8 +30,17 @@ same-length c = simp length-set at (c .before .before .put-part .kept .0)
 returns : tie.Need-returns
 returns c =
     let a = c .before .before .before .before .before .before .args in
-    rw (c .before .before .put-part .ensures) (turn-pending (a .rec .now) (a .p .now))
+    rw (c .before .before .put-part .ensures) (turn-pending (a .rec .now) (a .p .now) (a .at) (a .room) (a .at + 1 + a .room - (a .at + 1)) (omega arith))
 
 pub set-pending-spec : {M : Type 1} → statement M
 set-pending-spec =
-    tie.close (tie.spec cast-rec slice-write-rec put-part-requires same-length returns)
+    tie.close
+    (tie.spec
+    cast-rec
+    slice-write-rec
+    add-put-part
+    add-put-part-2
+    add-put-part-3
+    put-part-requires
+    same-length
+    returns)

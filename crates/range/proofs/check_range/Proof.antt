@@ -280,7 +280,7 @@ returns-24 c = rw (c .enum-told24 .given .1) refl
 
 returns-25 : tie.Need-returns-25
 unfolding rangeOf
-returns-25 c = rw (c .before .before .enum-told25 .given .1) (c .filter-range .ensures ∙ ap filterRange (c .before .word-at .ensures))
+returns-25 c = rw (c .before .before .enum-told25 .given .1) (c .filter-range .ensures ∙ ap (filterRange 64) (c .before .word-at .ensures))
 
 returns-26 : tie.Need-returns-26
 unfolding rangeOf

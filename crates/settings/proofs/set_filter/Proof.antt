@@ -1,4 +1,6 @@
 use Rattle.settings.proofs.Turn.{turn-filter}
+use native.Mathlib.Omega.{arith}
+use lib.ListN.{length-set}
 use borrow.Author.Needs.{needs}
 use Rattle.settings.proofs.set_filter.Statement.{statement}
 use Rattle.settings.proofs.set_filter.Tie as tie
@@ -12,26 +14,35 @@ slice-write-rec c = search needs
 shared-slice-read-rec-2 : tie.Need-shared-slice-read-rec-2
 shared-slice-read-rec-2 c = search needs
 
+add-rec : tie.Need-add-rec
+add-rec c = search needs
+
 slice-write-rec-2 : tie.Need-slice-write-rec-2
-slice-write-rec-2 c = search needs
+slice-write-rec-2 c = simp length-set (omega arith)
 
 shared-slice-read-rec-3 : tie.Need-shared-slice-read-rec-3
 shared-slice-read-rec-3 c = search needs
 
+add-rec-2 : tie.Need-add-rec-2
+add-rec-2 c = search needs
+
 slice-write-rec-3 : tie.Need-slice-write-rec-3
-slice-write-rec-3 c = search needs
+slice-write-rec-3 c = simp length-set (omega arith)
 
 shared-slice-read-rec-4 : tie.Need-shared-slice-read-rec-4
 shared-slice-read-rec-4 c = search needs
 
+add-rec-3 : tie.Need-add-rec-3
+add-rec-3 c = search needs
+
 slice-write-rec-4 : tie.Need-slice-write-rec-4
-slice-write-rec-4 c = search needs
+slice-write-rec-4 c = simp length-set (omega arith)
 
 same-length : tie.Need-same-length
 same-length c = search needs
 
 returns : tie.Need-returns
-returns c = let a = c .before .before .before .before .args in turn-filter (a .rec .now) (a .p .now) (λ i. c .shared-slice-known4 .given i .fits)
+returns c = let a = c .before .before .before .before .args in turn-filter (a .rec .now) (a .p .now) (λ i. c .shared-slice-known4 .given i .fits) (a .at)
 
 pub set-filter-spec : {M : Type 1} → statement M
 set-filter-spec =
@@ -40,10 +51,13 @@ set-filter-spec =
     shared-slice-read-rec
     slice-write-rec
     shared-slice-read-rec-2
+    add-rec
     slice-write-rec-2
     shared-slice-read-rec-3
+    add-rec-2
     slice-write-rec-3
     shared-slice-read-rec-4
+    add-rec-3
     slice-write-rec-4
     same-length
     returns)

@@ -1,0 +1,38 @@
+-- Each layout meets what is asked of it, by computing.
+use Prim.Native.Nat.{ℕ, _+_, _%_, _≤_, _<_}
+use mathlib.Core.Path.{_≡_, refl, ap, _∙_}
+use mathlib.Core.Bool.{Bool, true, false, cond, _&&_}
+use mathlib.Core.List.{List, [], _∷_}
+use native.Mathlib.Omega.{arith}
+use lib.ListN.{length, getD}
+use lib.Dec.{leb}
+use Rattle.wire.specs.Frames.{waits}
+use Rattle.wire.specs.Serial.{Head, Fixed, Bad, closed}
+use Rattle.wire.proofs.CutLaws.{Under, waits-short}
+use Rattle.wire.proofs.SerialLaws.{fronted-under, pending-short}
+use Rattle.record.specs.Layout.{current, plan1, plan2, plan3, seatHeads, seat}
+use Rattle.record.specs.Laid.{Laid}
+
+pub laid1 : Laid plan1
+laid1 = record { apart = refl; core = refl; radio = refl; size = omega arith; version = omega arith; room = omega arith; filters = omega arith; short = pending-short }
+
+pub laid2 : Laid plan2
+laid2 = record { apart = refl; core = refl; radio = refl; size = omega arith; version = omega arith; room = omega arith; filters = omega arith; short = λ l t. omega (arith, pending-short l t) }
+
+pub laid3 : Laid plan3
+laid3 = record { apart = refl; core = refl; radio = refl; size = omega arith; version = omega arith; room = omega arith; filters = omega arith; short = λ l t. omega (arith, pending-short l t) }
+
+seat-by : (t : Bool) (b n : ℕ) → cond t (Fixed (b % 16)) Bad ≡ Fixed n → 4 + n ≤ 19
+seat-by true b n e = let q : b % 16 ≡ n = cc in omega arith
+seat-by false b n e = let z : _≡_ {A = ℕ} 0 1 = cc in absurd (omega arith)
+
+seat-under : Under seatHeads 19
+unfolding seatHeads
+seat-under = fronted-under (λ b. cond (leb 0x90 b && leb b 0x9F) (Fixed (b % 16)) Bad) closed 19 (λ b n e. seat-by (leb 0x90 b && leb b 0x9F) b n e) (omega arith)
+
+pub laid-seat : Laid seat
+laid-seat = record { apart = refl; core = refl; radio = refl; size = omega arith; version = omega arith; room = omega arith; filters = omega arith; short = λ l t. omega (arith, waits-short seatHeads 19 seat-under l t) }
+
+-- of the version that all calls take
+pub laid : Laid current
+laid = laid1

@@ -1,0 +1,98 @@
+-- Each layout as a table: place, size, field. `proofs/Places` holds the tables to the layouts.
+use Prim.Native.Nat.{ℕ}
+use mathlib.Core.List.{List, [], _∷_}
+use Rattle.record.specs.Layout.{Part, SizeBytes, VersionByte, FlagByte, TriesByte, CodeWord, PowerHalf, StepByte, ModeByte, OnOffByte, InputBytes, OutputByte, IntervalByte, FilterWord, NamePart, ModelPart, PendingPart, PairsPart, CounterHalf, Plan, width, place}
+use Rattle.record.specs.Laid.{each}
+
+pub record Row : Type 0 where
+  pub place : ℕ
+  pub size : ℕ
+  pub field : Part
+
+abbrev pub row : ℕ → ℕ → Part → Row
+row place size field = record { place = place; size = size; field = field }
+
+-- the table of a layout
+abbrev pub rowsOf : Plan → List Row
+rowsOf p = each (λ q. row (place p q) (width p q) q) (p .parts)
+
+-- the board: 123 bytes
+abbrev pub board1 : List Row
+board1 =
+    row 0 2 SizeBytes
+    ∷ row 2 1 VersionByte
+    ∷ row 3 1 FlagByte
+    ∷ row 4 1 TriesByte
+    ∷ row 5 4 CodeWord
+    ∷ row 9 2 PowerHalf
+    ∷ row 11 1 StepByte
+    ∷ row 12 1 ModeByte
+    ∷ row 13 1 OnOffByte
+    ∷ row 14 5 InputBytes
+    ∷ row 19 1 OutputByte
+    ∷ row 20 1 IntervalByte
+    ∷ row 21 4 FilterWord
+    ∷ row 25 16 NamePart
+    ∷ row 41 15 ModelPart
+    ∷ row 56 19 PendingPart
+    ∷ row 75 48 PairsPart
+    ∷ []
+
+-- the same with one waiting byte more: 124 bytes
+abbrev pub board2 : List Row
+board2 =
+    row 0 2 SizeBytes
+    ∷ row 2 1 VersionByte
+    ∷ row 3 1 FlagByte
+    ∷ row 4 1 TriesByte
+    ∷ row 5 4 CodeWord
+    ∷ row 9 2 PowerHalf
+    ∷ row 11 1 StepByte
+    ∷ row 12 1 ModeByte
+    ∷ row 13 1 OnOffByte
+    ∷ row 14 5 InputBytes
+    ∷ row 19 1 OutputByte
+    ∷ row 20 1 IntervalByte
+    ∷ row 21 4 FilterWord
+    ∷ row 25 16 NamePart
+    ∷ row 41 15 ModelPart
+    ∷ row 56 20 PendingPart
+    ∷ row 76 48 PairsPart
+    ∷ []
+
+-- and with a counter: 126 bytes
+abbrev pub board3 : List Row
+board3 =
+    row 0 2 SizeBytes
+    ∷ row 2 1 VersionByte
+    ∷ row 3 1 FlagByte
+    ∷ row 4 1 TriesByte
+    ∷ row 5 4 CodeWord
+    ∷ row 9 2 PowerHalf
+    ∷ row 11 1 StepByte
+    ∷ row 12 1 ModeByte
+    ∷ row 13 1 OnOffByte
+    ∷ row 14 5 InputBytes
+    ∷ row 19 1 OutputByte
+    ∷ row 20 1 IntervalByte
+    ∷ row 21 4 FilterWord
+    ∷ row 25 16 NamePart
+    ∷ row 41 15 ModelPart
+    ∷ row 56 20 PendingPart
+    ∷ row 76 48 PairsPart
+    ∷ row 124 2 CounterHalf
+    ∷ []
+
+-- the board without radio: 112 bytes
+abbrev pub seatRows : List Row
+seatRows =
+    row 0 2 SizeBytes
+    ∷ row 2 1 VersionByte
+    ∷ row 3 1 FlagByte
+    ∷ row 4 1 TriesByte
+    ∷ row 5 4 CodeWord
+    ∷ row 9 4 FilterWord
+    ∷ row 13 15 ModelPart
+    ∷ row 28 20 PendingPart
+    ∷ row 48 64 PairsPart
+    ∷ []
