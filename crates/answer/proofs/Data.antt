@@ -15,7 +15,7 @@ use Rattle.wire.proofs.NumberLaws.{part-is}
 use Rattle.wire.proofs.PutLaws.{put-nil, put-one, put-two, put-four, put-put, put-byte}
 use Rattle.record.specs.Record.{Record}
 use Rattle.record.specs.Limits.{beforeZero}
-use Rattle.record.specs.Layout.{atName, atModel, atInputs, atPower, atFilter, atPairs, bitOf, recordOf}
+use Rattle.record.specs.Layout.{recordSize, nameRoom, modelRoom, atName, atNameBytes, atInputs, atPower, atFilter, atPairs, bitOf, recordOf}
 use Rattle.record.specs.Place.{Sound}
 use Rattle.record.proofs.Parts.{part-at, cut-take, cut-le}
 use Rattle.record.proofs.Lens.{long, get-name-length, get-power-bytes, get-filter-bytes, get-pair-bytes}
@@ -63,14 +63,14 @@ answer-as c k told r p d e before at n after g =
 -- ---- data of a record, out of its bytes
 
 module _ (s : List ℕ) (h : Sound s) where
-  pub sound-long : length s ≡ 123
+  pub sound-long : length s ≡ recordSize
   sound-long = ap length (h .same) ∙ long (recordOf s)
 
   pub sound-name : getD s atName 0 ≤ 15
   sound-name = subst⁻¹ (λ (n : ℕ). n ≤ 15) (ap (λ (l : List ℕ). getD l atName 0) (h .same) ∙ get-name-length (recordOf s)) (h .fit .name-length)
 
   module _ (p : List ℕ) where
-    pub power-data : getD s 9 0 ∷ getD s 10 0 ∷ [] ≡ dataOf ReadPower (recordOf s) p
+    pub power-data : getD s atPower 0 ∷ getD s (atPower + 1) 0 ∷ [] ≡ dataOf ReadPower (recordOf s) p
     unfolding dataOf
     power-data = ap (λ (l : List ℕ). bytesAt 2 l atPower) (h .same) ∙ get-power-bytes (recordOf s)
 
@@ -138,35 +138,37 @@ module _ (d : List ℕ) (at : ℕ) (room : at + 15 ≤ length d) where
       )
 
   -- the name as the code takes it out of the record
-  pub answers-name : (s : List ℕ) (n : ℕ) (x : List ℕ) → length s ≡ 123 → n ≤ 15 → x ≡ put d at (take (26 + n - 26) (drop 26 s)) → Answers d at (take n (bytesAt 15 s 26)) n x
+  pub answers-name : (s : List ℕ) (n : ℕ) (x : List ℕ) → atNameBytes + nameRoom ≤ length s → n ≤ nameRoom → x ≡ put d at (take (atNameBytes + n - atNameBytes) (drop atNameBytes s))
+      → Answers d at (take n (bytesAt nameRoom s atNameBytes)) n x
   answers-name s n x l h e =
-      let part : take (26 + n - 26) (drop 26 s) ≡ take n (bytesAt 15 s 26) = rw (add-sub-cancel-left 26 n, part-is 15 s 26 (omega arith)) (sym (take-take n 15 (drop 26 s) h)) in
-      (sym (length-take-le n (bytesAt 15 s 26) h), h, e ∙ ap (put d at) part)
+      let part : take (atNameBytes + n - atNameBytes) (drop atNameBytes s) ≡ take n (bytesAt nameRoom s atNameBytes) =
+      rw (add-sub-cancel-left atNameBytes n, part-is nameRoom s atNameBytes l) (sym (take-take n nameRoom (drop atNameBytes s) h)) in
+      (sym (length-take-le n (bytesAt nameRoom s atNameBytes) h), h, e ∙ ap (put d at) part)
 
 -- ---- the model, up to its first zero as the search finds it
 
-abbrev modelOf : List ℕ → List ℕ
-modelOf s = beforeZero (bytesAt 15 s atModel)
+module _ (s : List ℕ) (from : ℕ) (l : from + modelRoom ≤ length s) (end : ℕ) (found : end ≡ from + length (beforeZero (take (from + modelRoom - from) (drop from s)))) where
+  abbrev model : List ℕ
+  model = beforeZero (bytesAt modelRoom s from)
 
-module _ (s : List ℕ) (l : length s ≡ 123) (end : ℕ) (found : end ≡ 41 + length (beforeZero (take 15 (drop 41 s)))) where
-  model-end : end ≡ 41 + length (modelOf s)
-  model-end = found ∙ ap (λ (x : List ℕ). 41 + length (beforeZero x)) (sym (part-is 15 s 41 (omega arith)))
+  model-end : end ≡ from + length model
+  model-end =
+      let all : from + modelRoom - from ≡ modelRoom = omega arith in
+      found ∙ ap (λ (x : List ℕ). from + length (beforeZero x)) (ap (λ (n : ℕ). take n (drop from s)) all ∙ sym (part-is modelRoom s from l))
 
-  model-part : take (end - 41) (drop 41 s) ≡ modelOf s
+  model-part : take (end - from) (drop from s) ≡ model
   model-part =
-      let n : end - 41 ≡ length (modelOf s) = omega (arith, model-end) in
-      let front = take-take (length (modelOf s)) 15 (drop 41 s) (cut-le (bytesAt 15 s atModel)) in
-      rw n (sym front ∙ ap (take (length (modelOf s))) (sym (part-is 15 s 41 (omega arith))) ∙ cut-take (bytesAt 15 s atModel))
+      let n : end - from ≡ length model = omega (arith, model-end) in
+      let front = take-take (length model) modelRoom (drop from s) (cut-le (bytesAt modelRoom s from)) in
+      rw n (sym front ∙ ap (take (length model)) (sym (part-is modelRoom s from l)) ∙ cut-take (bytesAt modelRoom s from))
 
-  module _ (d : List ℕ) (at : ℕ) (room : at + 15 ≤ length d) (x : List ℕ) (copied : x ≡ put d at (take (end - 41) (drop 41 s))) where
-    pub answers-cut : end < 56 → (behind : ℕ) → behind ≡ at + length (take (end - 41) (drop 41 s)) → Answers d at (closedModel (modelOf s)) (end - 40) (set x behind 0x00)
+  module _ (d : List ℕ) (at : ℕ) (room : at + 15 ≤ length d) (x : List ℕ) (copied : x ≡ put d at (take (end - from) (drop from s))) where
+    pub answers-cut : end < from + modelRoom → (behind : ℕ) → behind ≡ at + length (take (end - from) (drop from s)) → Answers d at (closedModel model) (end - from + 1) (set x behind 0x00)
     answers-cut h behind e =
-        let m = modelOf s in
-        let short : length m < 15 = omega (arith, model-end) in
-        rw (e, copied, model-part, lt-ltb (length m) 15 short) (simp length-append (omega (arith, model-end)), omega arith, put-byte d at m 0x00 (omega arith))
+        let short : length model < modelRoom = omega (arith, model-end) in
+        rw (e, copied, model-part, lt-ltb (length model) modelRoom short) (simp length-append (omega (arith, model-end)), omega arith, put-byte d at model 0x00 (omega arith))
 
-    pub answers-whole : 56 ≤ end → end ≤ 56 → Answers d at (closedModel (modelOf s)) 15 x
+    pub answers-whole : from + modelRoom ≤ end → end ≤ from + modelRoom → Answers d at (closedModel model) modelRoom x
     answers-whole h k =
-        let m = modelOf s in
-        let full : length m ≡ 15 = omega (arith, model-end) in
-        rw (copied, model-part, le-ltb (length m) 15 (omega arith), append-nil m) (sym full, omega arith, refl)
+        let full : length model ≡ modelRoom = omega (arith, model-end) in
+        rw (copied, model-part, le-ltb (length model) modelRoom (omega arith), append-nil model) (sym full, omega arith, refl)

@@ -7,7 +7,7 @@ ghost use lib.ListN.{length, getD, take};
 ghost use Rattle.wire.specs.Numbers.{bytesAt, put};
 ghost use Rattle.wire.specs.declared.Range.the-variants.{Fits};
 ghost use Rattle.record.specs.Limits.{beforeZero};
-ghost use Rattle.record.specs.Layout.{bitOf, recordOf};
+ghost use Rattle.record.specs.Layout.{nameRoom, modelRoom, atInputs, atName, atNameBytes, bitOf, recordOf};
 ghost use Rattle.record.specs.Place.{Sound};
 ghost use Rattle.command.specs.declared.Counted.the-variants.{Right};
 ghost use Rattle.command.specs.Tables.{countedOf, rangeOf};
@@ -15,6 +15,19 @@ ghost use Rattle.command.specs.Effects.{dataOf, closedModel};
 ghost use Rattle.answer.specs.Answers.{Answers};
 use command::Command;
 use form::first_zero;
+use record::places::AT_FILTER;
+use record::places::AT_FLAGS;
+use record::places::AT_INTERVAL;
+use record::places::AT_MODE;
+use record::places::AT_MODEL;
+use record::places::AT_NAME;
+use record::places::AT_NAME_BYTES;
+use record::places::AT_ON_OFF;
+use record::places::AT_PAIRS;
+use record::places::AT_POWER;
+use record::places::AT_STEP;
+use record::places::BEFORE_INPUTS;
+use record::places::MODEL_ROOM;
 use wire::buffer::put_in;
 
 fn put_one(out: &mut [u8], at: usize, a: u8) -> usize
@@ -42,13 +55,13 @@ fn put_lock(out: &mut [u8], at: usize, flags: u8) -> usize
     1
 }
 
-// Channels 2 to 6 are at places 14 to 18.
+// The input type of a channel, 2 to 6.
 fn put_input(out: &mut [u8], at: usize, rec: &[u8], channel: u8) -> usize
-    requires { ⌜ (length (now rec) ≡ 123) × (at + 15 ≤ length (now out)) ⌝ }
+    requires { ⌜ (atInputs + 5 ≤ length (now rec)) × (at + 15 ≤ length (now out)) ⌝ }
     requires { ⌜ (2 ≤ channel) × (channel ≤ 6) ⌝ }
-    ensures { λ n. ⌜ Answers (now (out .entry)) at (getD (bytesAt 5 (now (rec .entry)) 14) (channel - 2) 0 ∷ []) n (now (out .exit)) ⌝ }
+    ensures { λ n. ⌜ Answers (now (out .entry)) at (getD (bytesAt 5 (now (rec .entry)) atInputs) (channel - 2) 0 ∷ []) n (now (out .exit)) ⌝ }
 {
-    out[at] = rec[(channel as usize) + 12];
+    out[at] = rec[(channel as usize) + BEFORE_INPUTS];
     1
 }
 
@@ -63,21 +76,22 @@ fn put_word(out: &mut [u8], at: usize, rec: &[u8], from: usize)
     out[at + 3] = rec[from + 3];
 }
 
-fn put_filter(out: &mut [u8], at: usize, rec: &[u8]) -> usize
-    requires { ⌜ (length (now rec) ≡ 123) × (at + 15 ≤ length (now out)) ⌝ }
-    ensures { λ n. ⌜ Answers (now (out .entry)) at (bytesAt 4 (now (rec .entry)) 21) n (now (out .exit)) ⌝ }
+// The filter word, which stands at a place of the record.
+fn put_filter(out: &mut [u8], at: usize, rec: &[u8], from: usize) -> usize
+    requires { ⌜ (from + 4 ≤ length (now rec)) × (at + 15 ≤ length (now out)) ⌝ }
+    ensures { λ n. ⌜ Answers (now (out .entry)) at (bytesAt 4 (now (rec .entry)) from) n (now (out .exit)) ⌝ }
 {
-    put_word(out, at, rec, 21);
+    put_word(out, at, rec, from);
     4
 }
 
-// The pairs stand from place 75 on, channel 1 first.
-fn put_pair(out: &mut [u8], at: usize, rec: &[u8], channel: u8) -> usize
-    requires { ⌜ (length (now rec) ≡ 123) × (at + 15 ≤ length (now out)) ⌝ }
-    requires { ⌜ (1 ≤ channel) × (channel ≤ 6) ⌝ }
-    ensures { λ n. ⌜ Answers (now (out .entry)) at (0x00 ∷ bytesAt 8 (now (rec .entry)) (75 + 8 * (channel - 1))) n (now (out .exit)) ⌝ }
+// The pair of a channel, of those that stand from a place on, channel 1 first.
+fn put_pair(out: &mut [u8], at: usize, rec: &[u8], pairs: usize, channel: u8) -> usize
+    requires { ⌜ (pairs + 8 * channel ≤ length (now rec)) × (at + 15 ≤ length (now out)) ⌝ }
+    requires { ⌜ 1 ≤ channel ⌝ }
+    ensures { λ n. ⌜ Answers (now (out .entry)) at (0x00 ∷ bytesAt 8 (now (rec .entry)) (pairs + 8 * (channel - 1))) n (now (out .exit)) ⌝ }
 {
-    let from = 75 + 8 * ((channel as usize) - 1);
+    let from = pairs + 8 * ((channel as usize) - 1);
     out[at] = 0x00;
     put_word(out, at + 1, rec, from);
     put_word(out, at + 5, rec, from + 4);
@@ -85,27 +99,28 @@ fn put_pair(out: &mut [u8], at: usize, rec: &[u8], channel: u8) -> usize
 }
 
 fn put_name(out: &mut [u8], at: usize, rec: &[u8]) -> usize
-    requires { ⌜ (length (now rec) ≡ 123) × (at + 15 ≤ length (now out)) ⌝ }
-    requires { ⌜ getD (now rec) 25 0 ≤ 15 ⌝ }
-    ensures { λ n. ⌜ Answers (now (out .entry)) at (take (getD (now (rec .entry)) 25 0) (bytesAt 15 (now (rec .entry)) 26)) n (now (out .exit)) ⌝ }
+    requires { ⌜ (atNameBytes + nameRoom ≤ length (now rec)) × (at + 15 ≤ length (now out)) ⌝ }
+    requires { ⌜ getD (now rec) atName 0 ≤ nameRoom ⌝ }
+    ensures { λ n. ⌜ Answers (now (out .entry)) at (take (getD (now (rec .entry)) atName 0) (bytesAt nameRoom (now (rec .entry)) atNameBytes)) n (now (out .exit)) ⌝ }
 {
-    let n = rec[25] as usize;
-    put_in(out, at, &rec[26..26 + n]);
+    let n = rec[AT_NAME] as usize;
+    put_in(out, at, &rec[AT_NAME_BYTES..AT_NAME_BYTES + n]);
     n
 }
 
-// A 00 follows if the model is shorter than its room.
-fn put_model(out: &mut [u8], at: usize, rec: &[u8]) -> usize
-    requires { ⌜ (length (now rec) ≡ 123) × (at + 15 ≤ length (now out)) ⌝ }
-    ensures { λ n. ⌜ Answers (now (out .entry)) at (closedModel (beforeZero (bytesAt 15 (now (rec .entry)) 41))) n (now (out .exit)) ⌝ }
+// The model, which stands at a place of the record. A 00 follows if it is shorter than its room.
+fn put_model(out: &mut [u8], at: usize, rec: &[u8], from: usize) -> usize
+    requires { ⌜ (from + modelRoom ≤ length (now rec)) × (at + 15 ≤ length (now out)) ⌝ }
+    ensures { λ n. ⌜ Answers (now (out .entry)) at (closedModel (beforeZero (bytesAt modelRoom (now (rec .entry)) from))) n (now (out .exit)) ⌝ }
 {
-    let end = first_zero(rec, 41, 56);
-    let behind = put_in(out, at, &rec[41..end]);
-    if end < 56 {
+    let most = from + MODEL_ROOM;
+    let end = first_zero(rec, from, most);
+    let behind = put_in(out, at, &rec[from..end]);
+    if end < most {
         out[behind] = 0x00;
-        return end - 40;
+        return end - from + 1;
     }
-    15
+    MODEL_ROOM
 }
 
 // Writes the data from a place on, and returns how many bytes.
@@ -119,29 +134,29 @@ pub fn put_data(rec: &[u8], c: Command, p: &[u8], out: &mut [u8], at: usize) -> 
     match c {
         Command::Open => put_two(out, at, 0x00, 0x14),
         Command::Close => 0,
-        Command::ReadPower => put_two(out, at, rec[9], rec[10]),
+        Command::ReadPower => put_two(out, at, rec[AT_POWER], rec[AT_POWER + 1]),
         Command::SetPower => 0,
-        Command::ReadStep => put_one(out, at, rec[11]),
+        Command::ReadStep => put_one(out, at, rec[AT_STEP]),
         Command::SetStep => 0,
-        Command::ReadMode => put_one(out, at, rec[12]),
+        Command::ReadMode => put_one(out, at, rec[AT_MODE]),
         Command::SetMode => 0,
         Command::ReadName => put_name(out, at, rec),
         Command::SetName => 0,
-        Command::ReadOnOff => put_one(out, at, rec[13]),
+        Command::ReadOnOff => put_one(out, at, rec[AT_ON_OFF]),
         Command::SetOnOff => 0,
         Command::SetInput => 0,
         Command::ReadInput => put_input(out, at, rec, p[0]),
         Command::SwitchOutput => 0,
         Command::SetInterval => 0,
-        Command::ReadInterval => put_one(out, at, rec[20]),
+        Command::ReadInterval => put_one(out, at, rec[AT_INTERVAL]),
         Command::Unlock => 0,
-        Command::ReadLock => put_lock(out, at, rec[3]),
-        Command::ReadModel => put_model(out, at, rec),
+        Command::ReadLock => put_lock(out, at, rec[AT_FLAGS]),
+        Command::ReadModel => put_model(out, at, rec, AT_MODEL),
         Command::SetModel => 0,
         Command::StopSending => 0,
         Command::StartSending => 0,
-        Command::ReadFilter => put_filter(out, at, rec),
+        Command::ReadFilter => put_filter(out, at, rec, AT_FILTER),
         Command::SetFilter => 0,
-        Command::ReadPair => put_pair(out, at, rec, p[0]),
+        Command::ReadPair => put_pair(out, at, rec, AT_PAIRS, p[0]),
     }
 }

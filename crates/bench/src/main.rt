@@ -1,6 +1,9 @@
 // Answers standard input as a board fresh from the factory does, reply bytes to standard output and nothing else.
 use libc::STDIN_FILENO;
 use libc::STDOUT_FILENO;
+use record::places::RECORD_SIZE;
+use wire::sizes::INPUT_MOST;
+use wire::sizes::ROOM_MOST;
 
 // One turn: what one read brings in, its replies out. Answers whether to go on.
 fn answer_some(rec: &mut [u8], input: &mut [u8], out: &mut [u8]) -> bool {
@@ -26,9 +29,9 @@ fn answer_all(rec: &mut [u8], input: &mut [u8], out: &mut [u8]) {
 }
 
 fn main() {
-    let mut rec = [0u8; 123];
-    let mut input = [0u8; 4096];
-    let mut out = [0u8; 19532];
+    let mut rec = [0u8; RECORD_SIZE];
+    let mut input = [0u8; INPUT_MOST];
+    let mut out = [0u8; ROOM_MOST];
     board::factory::board_factory(&mut rec);
     answer_all(&mut rec, &mut input, &mut out);
 }

@@ -5,6 +5,7 @@ use mathlib.Core.Bool.{true}
 use mathlib.Core.List.{List, [], append-nil}
 use lib.ListN.{length}
 use borrow.Author.Tests.{le-ltb}
+use Rattle.wire.specs.Sizes.{waitMost}
 use Rattle.wire.specs.Numbers.{Bytes}
 use Rattle.wire.specs.Serial.{serial}
 use Rattle.wire.specs.Replies.{written}
@@ -42,5 +43,5 @@ empty-input s o b w room =
     ∙ rw (form-good s w, le-ltb (length o) (roomFor (length (recordOf s .pending) + 0)) room, idle (recordOf s) (in-range s b w), kept-is (recordOf s), nothing-written, write-back s b w, put-nil o 0) refl
 
 -- "(76 bytes of room with 18 pending)"
-pub idle-room : roomFor (18 + 0) ≡ 76
+pub idle-room : roomFor waitMost ≡ 76
 idle-room = refl

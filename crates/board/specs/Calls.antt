@@ -4,6 +4,7 @@ use mathlib.Core.Bool.{not, cond}
 use mathlib.Core.List.{List, [], _∷_, _++_}
 use lib.ListN.{length}
 use lib.Dec.{ltb, eqb}
+use Rattle.wire.specs.Sizes.{inputMost}
 use Rattle.wire.specs.Numbers.{bytesAt, put}
 use Rattle.wire.specs.Replies.{Reply, written}
 use Rattle.wire.specs.Run.{Hunted}
@@ -36,9 +37,6 @@ unfolding poweredOn bytesOf recordOf put wellFormed
 powerOnCall s = inOrder (powerOnCauses s) s [] (done (poweredOn (recordOf s)) [] 0 [])
 
 -- ---- bytes
-
-abbrev pub inputMost : ℕ
-inputMost = 4096
 
 -- "2: input over 4,096"; "3: output shorter than 19 times the whole part of (pending + input) / 4"
 abbrev pub bytesCauses : List ℕ → List ℕ → List ℕ → List Cause

@@ -8,6 +8,8 @@ use form::form_of;
 use hunt::room_for;
 use hunt::serve;
 use record::Form;
+use record::places::AT_PENDING;
+use wire::sizes::INPUT_MOST;
 
 #[no_mangle]
 pub extern "C" fn board_bytes(rec: &mut [u8], input: &[u8], out: &mut [u8]) -> Answer
@@ -16,10 +18,10 @@ pub extern "C" fn board_bytes(rec: &mut [u8], input: &[u8], out: &mut [u8]) -> A
     let Form::Good = form_of(rec) else {
         return ended(Ending::BadRecord);
     };
-    if 4096 < input.len() {
+    if INPUT_MOST < input.len() {
         return ended(Ending::BadLength);
     }
-    let held = rec[56] as usize;
+    let held = rec[AT_PENDING] as usize;
     if out.len() < room_for(held, input.len()) {
         return ended(Ending::NoRoom);
     }

@@ -6,12 +6,13 @@ use call::Answer;
 use call::Ending;
 use call::ended;
 use parts::fresh::write_factory;
+use record::places::RECORD_SIZE;
 
 #[no_mangle]
 pub extern "C" fn board_factory(rec: &mut [u8]) -> Answer
     ensures { λ a. ⌜ Leaves (factoryCall (now (rec .entry))) a (now (rec .exit)) [] ⌝ }
 {
-    if rec.len() != 123 {
+    if rec.len() != RECORD_SIZE {
         return ended(Ending::BadRecord);
     }
     write_factory(rec);

@@ -3,8 +3,9 @@ ghost use mathlib.Core.Path.{_≡_};
 ghost use Prim.Native.Nat.{_≤_};
 ghost use lib.ListN.{length};
 ghost use Rattle.wire.specs.Numbers.{put};
+ghost use Rattle.record.specs.Layout.{channels};
 ghost use Rattle.call.specs.Outcome.{Leaves};
-ghost use Rattle.board.specs.Calls.{measured, samplesCall};
+ghost use Rattle.board.specs.Calls.{sampleSize, frameSize, measured, samplesCall};
 use call::Answer;
 use call::Ending;
 use call::ended;
@@ -14,11 +15,18 @@ use reading::peaks::take_reading;
 use record::Form;
 use wire::buffer::put_in;
 
+// A reading of six channels, and its measuring frame.
+const SAMPLE_SIZE: usize = 24;
+
+const FRAME_SIZE: usize = 28;
+
+const FRAME_COUNT: u32 = FRAME_SIZE as u32;
+
 // A measuring frame at the start of the output.
 fn put_frame(out: &mut [u8], sample: &[u8])
-    requires { ⌜ 28 ≤ length (now out) ⌝ }
-    requires { ⌜ length (now sample) ≡ 24 ⌝ }
-    ensures { λ _. ⌜ now (out .exit) ≡ put (now (out .entry)) 0 (measured 6 (now (sample .entry))) ⌝ }
+    requires { ⌜ frameSize ≤ length (now out) ⌝ }
+    requires { ⌜ length (now sample) ≡ sampleSize ⌝ }
+    ensures { λ _. ⌜ now (out .exit) ≡ put (now (out .entry)) 0 (measured channels (now (sample .entry))) ⌝ }
 {
     let frame = [
         0xAA,
@@ -60,10 +68,10 @@ pub extern "C" fn board_samples(rec: &mut [u8], sample: &[u8], out: &mut [u8]) -
     let Form::Good = form_of(rec) else {
         return ended(Ending::BadRecord);
     };
-    if sample.len() != 24 {
+    if sample.len() != SAMPLE_SIZE {
         return ended(Ending::BadLength);
     }
-    if out.len() < 28 {
+    if out.len() < FRAME_SIZE {
         return ended(Ending::NoRoom);
     }
     if !finite_sample(sample) {
@@ -73,7 +81,7 @@ pub extern "C" fn board_samples(rec: &mut [u8], sample: &[u8], out: &mut [u8]) -
         put_frame(out, sample);
         return Answer {
             result: 0,
-            written: 28,
+            written: FRAME_COUNT,
             skipped: 0,
         };
     }

@@ -3,6 +3,7 @@ use Prim.Native.Nat.{ℕ, _+_, _≤_}
 use mathlib.Core.Path.{_≡_}
 use mathlib.Core.List.{List}
 use lib.ListN.{length}
+use Rattle.wire.specs.Sizes.{frameMost}
 use Rattle.wire.specs.Numbers.{put}
 use Rattle.wire.specs.Replies.{replyBytes}
 use Rattle.record.specs.Record.{Record}
@@ -20,5 +21,5 @@ pub record Acts (r : Record) (head number : ℕ) (p : List ℕ) (v : Verdict) (k
 pub record Carries (r : Record) (f before : List ℕ) (at end : ℕ) (kept after : List ℕ) : Type 0 where
   pub held : Holds (stepOf r f .after) kept
   pub ends : end ≡ at + length (replyBytes (stepOf r f .reply))
-  pub small : end ≤ at + 19
+  pub small : end ≤ at + frameMost
   pub bytes : after ≡ put before at (replyBytes (stepOf r f .reply))

@@ -3,6 +3,7 @@ ghost use mathlib.Core.Path.{_≡_};
 ghost use mathlib.Core.Bool.{true};
 ghost use Prim.Native.Nat.{_+_, _≤_};
 ghost use lib.ListN.{length};
+ghost use Rattle.wire.specs.Sizes.{frameMost};
 ghost use Rattle.wire.specs.Serial.{isHead, headOf};
 ghost use Rattle.record.specs.Layout.{recordOf};
 ghost use Rattle.record.specs.Place.{Sound};
@@ -36,7 +37,7 @@ pub fn act(rec: &mut [u8], head: u8, number: u8, p: &[u8]) -> Verdict
 pub fn carry(rec: &mut [u8], frame: &[u8], out: &mut [u8], at: usize) -> usize
     requires { ⌜ Sound (now rec) ⌝ }
     requires { ⌜ (4 ≤ length (now frame)) × (isHead (headOf (now frame)) ≡ true) ⌝ }
-    requires { ⌜ at + 19 ≤ length (now out) ⌝ }
+    requires { ⌜ at + frameMost ≤ length (now out) ⌝ }
     ensures { λ e. ⌜ Carries (recordOf (now (rec .entry))) (now (frame .entry)) (now (out .entry)) at e (now (rec .exit)) (now (out .exit)) ⌝ }
 {
     let end = frame.len() - 1;

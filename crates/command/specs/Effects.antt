@@ -8,6 +8,7 @@ use Rattle.wire.specs.Numbers.{halfAt, wordAt, bytes2, bytes4}
 use Rattle.peak.specs.Pairs.{noPair, pairBytes}
 use Rattle.record.specs.Record.{Record, withFlags, withSettings, withOutputs, withModel, withOpened, withUnlocked, withSending, withOutput, withPower, withStep, withMode, withOnOff, withInputs, withInterval, withFilter, withName}
 use Rattle.record.specs.Limits.{beforeZero}
+use Rattle.record.specs.Layout.{modelRoom}
 use Rattle.command.specs.declared.Command.{Command}
 use Rattle.command.specs.declared.Command.the-variants.{Open, Close, ReadPower, SetPower, ReadStep, SetStep, ReadMode, SetMode, ReadName, SetName, ReadOnOff, SetOnOff, SetInput, ReadInput, SwitchOutput, SetInterval, ReadInterval, Unlock, ReadLock, ReadModel, SetModel, StopSending, StartSending, ReadFilter, SetFilter, ReadPair}
 
@@ -42,7 +43,7 @@ effectOf ReadPair r p = r
 
 -- "a 00 follows if shorter than 15"
 abbrev pub closedModel : List ℕ → List ℕ
-closedModel m = m ++ cond (ltb (length m) 15) (0x00 ∷ []) []
+closedModel m = m ++ cond (ltb (length m) modelRoom) (0x00 ∷ []) []
 
 unfoldable pub dataOf : Command → Record → List ℕ → List ℕ
 dataOf Open r p = 0x00 ∷ 0x14 ∷ []

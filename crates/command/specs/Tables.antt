@@ -9,6 +9,7 @@ use Rattle.wire.specs.Numbers.{halfAt, wordAt, signed8}
 use Rattle.wire.specs.Ranges.{within, unsigned, also}
 use Rattle.wire.specs.declared.Range.{Range}
 use Rattle.wire.specs.declared.Range.the-variants.{Fits}
+use Rattle.record.specs.Layout.{Plan, current}
 use Rattle.record.specs.Limits.{powerRange, stepRange, modeRange, onOffRange, inputRange, intervalRange, filterRange, nameRange}
 use Rattle.command.specs.declared.Command.{Command}
 use Rattle.command.specs.declared.Command.the-variants.{Open, Close, ReadPower, SetPower, ReadStep, SetStep, ReadMode, SetMode, ReadName, SetName, ReadOnOff, SetOnOff, SetInput, ReadInput, SwitchOutput, SetInterval, ReadInterval, Unlock, ReadLock, ReadModel, SetModel, StopSending, StartSending, ReadFilter, SetFilter, ReadPair}
@@ -170,34 +171,39 @@ outputNumber b = within (pos 1) (pos 4) (signed8 b)
 abbrev pub outputValue : ℕ → Range
 outputValue b = within (pos 0) (pos 1) (signed8 b)
 
-abbrev pub pairChannel : ℕ → Range
-pairChannel b = unsigned 1 6 b
+abbrev pub pairChannel : ℕ → ℕ → Range
+pairChannel most b = unsigned 1 most b
+
+-- the numbers of a layout are those of its record: channels and filter bound
+unfoldable pub rangeIn : Plan → Command → List ℕ → Range
+unfolding nameRange
+rangeIn l Open p = Fits
+rangeIn l Close p = Fits
+rangeIn l ReadPower p = Fits
+rangeIn l SetPower p = powerRange (halfAt p 0)
+rangeIn l ReadStep p = Fits
+rangeIn l SetStep p = stepRange (getD p 0 0)
+rangeIn l ReadMode p = Fits
+rangeIn l SetMode p = modeRange (getD p 0 0)
+rangeIn l ReadName p = Fits
+rangeIn l SetName p = nameRange p
+rangeIn l ReadOnOff p = Fits
+rangeIn l SetOnOff p = onOffRange (getD p 0 0)
+rangeIn l SetInput p = also (inputChannel (getD p 0 0)) (inputRange (getD p 1 0))
+rangeIn l ReadInput p = inputChannel (getD p 0 0)
+rangeIn l SwitchOutput p = also (outputNumber (getD p 0 0)) (outputValue (getD p 1 0))
+rangeIn l SetInterval p = intervalRange (getD p 0 0)
+rangeIn l ReadInterval p = Fits
+rangeIn l Unlock p = Fits
+rangeIn l ReadLock p = Fits
+rangeIn l ReadModel p = Fits
+rangeIn l SetModel p = Fits
+rangeIn l StopSending p = Fits
+rangeIn l StartSending p = Fits
+rangeIn l ReadFilter p = Fits
+rangeIn l SetFilter p = filterRange (l .filters) (wordAt p 0)
+rangeIn l ReadPair p = pairChannel (l .channels) (getD p 0 0)
 
 unfoldable pub rangeOf : Command → List ℕ → Range
-unfolding nameRange
-rangeOf Open p = Fits
-rangeOf Close p = Fits
-rangeOf ReadPower p = Fits
-rangeOf SetPower p = powerRange (halfAt p 0)
-rangeOf ReadStep p = Fits
-rangeOf SetStep p = stepRange (getD p 0 0)
-rangeOf ReadMode p = Fits
-rangeOf SetMode p = modeRange (getD p 0 0)
-rangeOf ReadName p = Fits
-rangeOf SetName p = nameRange p
-rangeOf ReadOnOff p = Fits
-rangeOf SetOnOff p = onOffRange (getD p 0 0)
-rangeOf SetInput p = also (inputChannel (getD p 0 0)) (inputRange (getD p 1 0))
-rangeOf ReadInput p = inputChannel (getD p 0 0)
-rangeOf SwitchOutput p = also (outputNumber (getD p 0 0)) (outputValue (getD p 1 0))
-rangeOf SetInterval p = intervalRange (getD p 0 0)
-rangeOf ReadInterval p = Fits
-rangeOf Unlock p = Fits
-rangeOf ReadLock p = Fits
-rangeOf ReadModel p = Fits
-rangeOf SetModel p = Fits
-rangeOf StopSending p = Fits
-rangeOf StartSending p = Fits
-rangeOf ReadFilter p = Fits
-rangeOf SetFilter p = filterRange 64 (wordAt p 0)
-rangeOf ReadPair p = pairChannel (getD p 0 0)
+unfolding rangeIn
+rangeOf c p = rangeIn current c p

@@ -7,6 +7,7 @@ use native.Mathlib.Omega.{arith}
 use lib.ListN.{length}
 use lib.Dec.{ltb}
 use borrow.Author.Tests.{ltb-false}
+use Rattle.wire.specs.Sizes.{inputMost}
 use Rattle.wire.specs.Numbers.{Bytes}
 use Rattle.wire.specs.Frames.{cut}
 use Rattle.wire.specs.Serial.{serial}
@@ -24,7 +25,7 @@ use Rattle.call.specs.declared.Ending.the-variants.{BadLength, NoRoom}
 use Rattle.call.specs.Outcome.{Outcome, cause, done}
 use Rattle.call.specs.Ending.{NoReason}
 use Rattle.call.proofs.InOrder.{None, SameCauses, none-left}
-use Rattle.board.specs.Calls.{inputMost, bytesCauses, served, bytesCall}
+use Rattle.board.specs.Calls.{bytesCauses, served, bytesCall}
 use Rattle.board.proofs.Unfolded.{bytes-by}
 use Rattle.demands.specs.Premise.{SameButCode, QuietRun, Alike}
 use Rattle.demands.specs.Calls.{bytesReasons, bytes}

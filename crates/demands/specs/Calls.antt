@@ -5,6 +5,7 @@ use mathlib.Core.Logic.{_≢_}
 use mathlib.Core.Bool.{Bool, true, false}
 use mathlib.Core.List.{List, [], _∷_, _++_}
 use lib.ListN.{length}
+use Rattle.wire.specs.Sizes.{inputMost}
 use Rattle.wire.specs.Numbers.{Bytes, wordAt}
 use Rattle.wire.specs.Frames.{cut}
 use Rattle.wire.specs.Serial.{serial}
@@ -15,7 +16,7 @@ use Rattle.hunt.specs.Hunt.{roomFor}
 use Rattle.call.specs.declared.Ending.the-variants.{BadRecord, BadLength, NoRoom, NotFinite}
 use Rattle.call.specs.Outcome.{Outcome}
 use Rattle.call.specs.Ending.{Reason, reason}
-use Rattle.board.specs.Calls.{factoryCall, powerOnCall, inputMost, bytesCall, sampleSize, frameSize, samplesCall}
+use Rattle.board.specs.Calls.{factoryCall, powerOnCall, bytesCall, sampleSize, frameSize, samplesCall}
 use Rattle.demands.specs.Premise.{QuietRun}
 
 pub record Call : Type 1 where

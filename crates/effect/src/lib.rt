@@ -2,6 +2,7 @@
 ghost use mathlib.Core.Path.{_≡_};
 ghost use lib.ListN.{length};
 ghost use Rattle.wire.specs.declared.Range.the-variants.{Fits};
+ghost use Rattle.record.specs.Layout.{recordSize};
 ghost use Rattle.record.specs.Place.{Turns};
 ghost use Rattle.command.specs.declared.Counted.the-variants.{Right};
 ghost use Rattle.command.specs.Tables.{countedOf, rangeOf};
@@ -18,6 +19,8 @@ use flags::stop_sending;
 use flags::unlock;
 use parts::set_model;
 use parts::set_name;
+use record::places::AT_FILTER;
+use record::places::AT_MODEL;
 use settings::set_filter;
 use settings::set_input;
 use settings::set_interval;
@@ -28,7 +31,7 @@ use settings::set_step;
 use settings::switch_output;
 
 pub fn carry_out(rec: &mut [u8], c: Command, p: &[u8])
-    requires { ⌜ length (now rec) ≡ 123 ⌝ }
+    requires { ⌜ length (now rec) ≡ recordSize ⌝ }
     requires { ⌜ countedOf c (length (now p)) ≡ Right ⌝ }
     requires { ⌜ rangeOf c (now p) ≡ Fits ⌝ }
     ensures { λ _. ⌜ Turns (now (rec .entry)) (now (rec .exit)) (λ r. effectOf c r (now (p .entry))) ⌝ }
@@ -54,18 +57,18 @@ pub fn carry_out(rec: &mut [u8], c: Command, p: &[u8])
         Command::Unlock => unlock(rec),
         Command::ReadLock => {}
         Command::ReadModel => {}
-        Command::SetModel => set_model(rec, 41, p),
+        Command::SetModel => set_model(rec, AT_MODEL, p),
         Command::StopSending => stop_sending(rec),
         Command::StartSending => start_sending(rec),
         Command::ReadFilter => {}
-        Command::SetFilter => set_filter(rec, 21, p),
+        Command::SetFilter => set_filter(rec, AT_FILTER, p),
         Command::ReadPair => {}
     }
 }
 
 // Only a wrong code leaves a trace: a try more.
 pub fn refuse_on(rec: &mut [u8], why: Refusal)
-    requires { ⌜ length (now rec) ≡ 123 ⌝ }
+    requires { ⌜ length (now rec) ≡ recordSize ⌝ }
     requires { ⌜ Countable why (now rec) ⌝ }
     ensures { λ _. ⌜ Turns (now (rec .entry)) (now (rec .exit)) (λ r. leftBy why r) ⌝ }
 {

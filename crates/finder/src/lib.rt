@@ -3,6 +3,7 @@ ghost use mathlib.Core.Logic.{_⊎_};
 ghost use mathlib.Core.Path.{_≡_};
 ghost use Prim.Native.Nat.{_+_, _≤_, _<_};
 ghost use lib.ListN.{length};
+ghost use Rattle.wire.specs.Sizes.{streamMost};
 ghost use Rattle.finder.specs.Finder.{announcedOf, quiet, Passed, Reaches, Finds};
 
 // What the byte behind an AA announces: a frame with so many parameters, or none.
@@ -97,7 +98,7 @@ fn lesser(a: usize, b: usize) -> usize
 
 // Passes over bytes to skip, up to the next piece: a frame, a broken head, a candidate that waits, or `until`.
 pub fn find(s: &[u8], from: usize, until: usize) -> Found
-    requires { ⌜ (from ≤ until) × (until ≤ length (now s)) × (length (now s) ≤ 4114) ⌝ }
+    requires { ⌜ (from ≤ until) × (until ≤ length (now s)) × (length (now s) ≤ streamMost) ⌝ }
     ensures { λ r. ⌜ Finds (now (s .entry)) from until r ⌝ }
 {
     let mut at = from;

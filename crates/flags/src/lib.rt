@@ -1,51 +1,56 @@
-// Flags and tries of a record stored in its bytes, in every layout that has them at places 3 and 4, one function for each change that a command can make.
+// Flags and tries of a record stored in its bytes, in every layout that has them at these places, one function for each change that a command can make. A flag is set or cleared by its bit, so that the byte keeps its other bits.
 ghost use mathlib.Core.Path.{_≡_};
 ghost use mathlib.Core.Bool.{true, false};
-ghost use Prim.Native.Nat.{_+_, _≤_, _<_};
+ghost use Prim.Native.Nat.{_+_, _<_};
 ghost use lib.ListN.{length, getD};
 ghost use Rattle.record.specs.Record.{withOpened, withUnlocked, withSending, withFlags, withTries};
+ghost use Rattle.record.specs.Layout.{FlagByte, TriesByte, atFlags, atTries};
 ghost use Rattle.record.specs.Place.{TurnsAt};
-ghost use Rattle.record.specs.Layout.{FlagByte, TriesByte};
+use record::places::AT_FLAGS;
+use record::places::AT_TRIES;
+use record::places::OPENED;
+use record::places::SENDING;
+use record::places::UNLOCKED;
 
 pub fn open_mode(rec: &mut [u8])
-    requires { ⌜ 5 ≤ length (now rec) ⌝ }
-    ensures { λ _. ⌜ TurnsAt FlagByte 3 (now (rec .entry)) (now (rec .exit)) (λ r. withFlags r (withOpened (r .flags) true)) ⌝ }
+    requires { ⌜ atFlags < length (now rec) ⌝ }
+    ensures { λ _. ⌜ TurnsAt FlagByte atFlags (now (rec .entry)) (now (rec .exit)) (λ r. withFlags r (withOpened (r .flags) true)) ⌝ }
 {
-    rec[3] |= 1;
+    rec[AT_FLAGS] |= OPENED;
 }
 
 pub fn close_mode(rec: &mut [u8])
-    requires { ⌜ 5 ≤ length (now rec) ⌝ }
-    ensures { λ _. ⌜ TurnsAt FlagByte 3 (now (rec .entry)) (now (rec .exit)) (λ r. withFlags r (withOpened (r .flags) false)) ⌝ }
+    requires { ⌜ atFlags < length (now rec) ⌝ }
+    ensures { λ _. ⌜ TurnsAt FlagByte atFlags (now (rec .entry)) (now (rec .exit)) (λ r. withFlags r (withOpened (r .flags) false)) ⌝ }
 {
-    rec[3] &= 14;
+    rec[AT_FLAGS] &= !OPENED;
 }
 
 pub fn unlock(rec: &mut [u8])
-    requires { ⌜ 5 ≤ length (now rec) ⌝ }
-    ensures { λ _. ⌜ TurnsAt FlagByte 3 (now (rec .entry)) (now (rec .exit)) (λ r. withFlags r (withUnlocked (r .flags) true)) ⌝ }
+    requires { ⌜ atFlags < length (now rec) ⌝ }
+    ensures { λ _. ⌜ TurnsAt FlagByte atFlags (now (rec .entry)) (now (rec .exit)) (λ r. withFlags r (withUnlocked (r .flags) true)) ⌝ }
 {
-    rec[3] |= 2;
+    rec[AT_FLAGS] |= UNLOCKED;
 }
 
 pub fn stop_sending(rec: &mut [u8])
-    requires { ⌜ 5 ≤ length (now rec) ⌝ }
-    ensures { λ _. ⌜ TurnsAt FlagByte 3 (now (rec .entry)) (now (rec .exit)) (λ r. withFlags r (withSending (r .flags) false)) ⌝ }
+    requires { ⌜ atFlags < length (now rec) ⌝ }
+    ensures { λ _. ⌜ TurnsAt FlagByte atFlags (now (rec .entry)) (now (rec .exit)) (λ r. withFlags r (withSending (r .flags) false)) ⌝ }
 {
-    rec[3] &= 11;
+    rec[AT_FLAGS] &= !SENDING;
 }
 
 pub fn start_sending(rec: &mut [u8])
-    requires { ⌜ 5 ≤ length (now rec) ⌝ }
-    ensures { λ _. ⌜ TurnsAt FlagByte 3 (now (rec .entry)) (now (rec .exit)) (λ r. withFlags r (withSending (r .flags) true)) ⌝ }
+    requires { ⌜ atFlags < length (now rec) ⌝ }
+    ensures { λ _. ⌜ TurnsAt FlagByte atFlags (now (rec .entry)) (now (rec .exit)) (λ r. withFlags r (withSending (r .flags) true)) ⌝ }
 {
-    rec[3] |= 4;
+    rec[AT_FLAGS] |= SENDING;
 }
 
 pub fn count_try(rec: &mut [u8])
-    requires { ⌜ 5 ≤ length (now rec) ⌝ }
-    requires { ⌜ getD (now rec) 4 0 < 3 ⌝ }
-    ensures { λ _. ⌜ TurnsAt TriesByte 4 (now (rec .entry)) (now (rec .exit)) (λ r. withTries r (r .tries + 1)) ⌝ }
+    requires { ⌜ atTries < length (now rec) ⌝ }
+    requires { ⌜ getD (now rec) atTries 0 < 3 ⌝ }
+    ensures { λ _. ⌜ TurnsAt TriesByte atTries (now (rec .entry)) (now (rec .exit)) (λ r. withTries r (r .tries + 1)) ⌝ }
 {
-    rec[4] += 1;
+    rec[AT_TRIES] += 1;
 }

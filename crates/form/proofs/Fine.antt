@@ -13,7 +13,8 @@ use Rattle.wire.specs.Ranges.{fits, also}
 use Rattle.wire.specs.declared.Range.the-variants.{Fits, Big}
 use Rattle.wire.specs.Frames.{waits}
 use Rattle.wire.specs.Serial.{serial}
-use Rattle.wire.proofs.NumberLaws.{part-is, drop-take}
+use Rattle.wire.proofs.NumberLaws.{length-part, part-all, part-is, drop-take}
+use Rattle.record.specs.Layout.{recordSize, nameRoom, modelRoom, pendingRoom, atName, atNameBytes, atModel, atPending, atWaiting, atPairs}
 use Rattle.record.specs.Limits.{nameRange, beforeZero}
 use Rattle.record.specs.Form.{Field, allZero, zerosBehind, partFits, allFine, headFields, radioFields, inputFields, switchFields, nameFields, modelFields, pendingFields, pairFields, groupsOf, join, wellFormed, formBy, formOf}
 use Rattle.record.specs.declared.Form.the-variants.{Good, Bad}
@@ -74,52 +75,71 @@ both-first a b e = rw e refl
 both-not : (a b : Bool) → a ≡ false → (a && b) ≡ false
 both-not a b e = rw e refl
 
-module _ (s : List ℕ) (whole : length s ≡ 123) where
+-- ---- the name
+
+module _ (s : List ℕ) (whole : atModel ≤ length s) where
   abbrev name : ℕ
-  name = getD s 25 0
+  name = getD s atName 0
 
-  abbrev waiting : ℕ
-  waiting = getD s 56 0
+  abbrev room : List ℕ
+  room = bytesAt nameRoom s atNameBytes
 
-  pub name-long : 15 < name → false ≡ allFine (nameFields s)
-  name-long h = rw (lt-leb name 15 h) refl
+  -- the room as it is handed on
+  room-is : bytesAt nameRoom (take (atModel - atNameBytes) (drop atNameBytes s)) 0 ≡ room
+  room-is = ap (λ (l : List ℕ). bytesAt nameRoom l 0) (sym (part-is nameRoom s atNameBytes whole)) ∙ part-all nameRoom room (length-part nameRoom s atNameBytes)
 
-  module _ (h : name ≤ 15) where
-    name-is : allFine (nameFields s) ≡ (fits (nameRange (bytesAt 15 s 26)) && allZero (part s (26 + name) 41))
+  pub name-long : nameRoom < name → false ≡ allFine (nameFields s)
+  name-long h = rw (lt-leb name nameRoom h) refl
+
+  module _ (h : name ≤ nameRoom) where
+    name-is : allFine (nameFields s) ≡ (fits (nameRange room) && allZero (part s (atNameBytes + name) atModel))
     name-is =
-        fields-yes name 15 (partFits (λ l. fits (nameRange l)) name (bytesAt 15 s 26)) h
-        ∙ room-name name (bytesAt 15 s 26) ∙ ap (λ (l : List ℕ). fits (nameRange (bytesAt 15 s 26)) && allZero l) (part-behind s 26 15 name (omega arith) h)
+        fields-yes name nameRoom (partFits (λ l. fits (nameRange l)) name room) h
+        ∙ room-name name room ∙ ap (λ (l : List ℕ). fits (nameRange room) && allZero l) (part-behind s atNameBytes nameRoom name whole h)
 
-    pub name-zeros : fits (nameRange (bytesAt 15 s 26)) ≡ true → allZero (part s (26 + name) 41) ≡ allFine (nameFields s)
-    name-zeros e = sym (name-is ∙ both-first _ _ e)
+    module _ (t : Bool) (e : t ≡ fits (nameRange (bytesAt nameRoom (take (atModel - atNameBytes) (drop atNameBytes s)) 0))) where
+      named : fits (nameRange room) ≡ t
+      named = sym (e ∙ ap (λ (l : List ℕ). fits (nameRange l)) room-is)
 
-    pub name-bad : fits (nameRange (bytesAt 15 s 26)) ≡ false → false ≡ allFine (nameFields s)
-    name-bad e = sym (name-is ∙ both-not _ _ e)
+      pub name-zeros : t ≡ true → allZero (part s (atNameBytes + name) atModel) ≡ allFine (nameFields s)
+      name-zeros y = sym (name-is ∙ both-first _ _ (named ∙ y))
 
-  pub pending-long : 18 < waiting → false ≡ allFine (pendingFields s)
-  pending-long h = rw (lt-leb waiting 18 h) refl
+      pub name-bad : t ≡ false → false ≡ allFine (nameFields s)
+      name-bad y = sym (name-is ∙ both-not _ _ (named ∙ y))
 
-  module _ (h : waiting ≤ 18) where
-    pending-is : allFine (pendingFields s) ≡ (waits serial (take waiting (drop 57 s)) && allZero (part s (57 + waiting) 75))
+-- ---- the pending bytes
+
+module _ (s : List ℕ) (whole : atPairs ≤ length s) where
+  abbrev waiting : ℕ
+  waiting = getD s atPending 0
+
+  pub pending-long : pendingRoom < waiting → false ≡ allFine (pendingFields s)
+  pending-long h = rw (lt-leb waiting pendingRoom h) refl
+
+  module _ (h : waiting ≤ pendingRoom) where
+    pending-is : allFine (pendingFields s) ≡ (waits serial (take waiting (drop atWaiting s)) && allZero (part s (atWaiting + waiting) atPairs))
     pending-is =
-        let e : 57 + waiting - 57 ≡ waiting = omega arith in
-        fields-yes waiting 18 (partFits (waits serial) waiting (bytesAt 18 s 57)) h ∙ part-fits (waits serial) s 57 18 waiting (omega arith) h ∙ rw e refl
+        let e : atWaiting + waiting - atWaiting ≡ waiting = omega arith in
+        fields-yes waiting pendingRoom (partFits (waits serial) waiting (bytesAt pendingRoom s atWaiting)) h ∙ part-fits (waits serial) s atWaiting pendingRoom waiting whole h ∙ rw e refl
 
-    pub pending-zeros : waits serial (take waiting (drop 57 s)) ≡ true → allZero (part s (57 + waiting) 75) ≡ allFine (pendingFields s)
+    pub pending-zeros : waits serial (take waiting (drop atWaiting s)) ≡ true → allZero (part s (atWaiting + waiting) atPairs) ≡ allFine (pendingFields s)
     pending-zeros e = sym (pending-is ∙ both-first _ _ e)
 
-    pub pending-bad : waits serial (take waiting (drop 57 s)) ≡ false → false ≡ allFine (pendingFields s)
+    pub pending-bad : waits serial (take waiting (drop atWaiting s)) ≡ false → false ≡ allFine (pendingFields s)
     pending-bad e = sym (pending-is ∙ both-not _ _ e)
 
-  -- from the first zero on
-  pub model-is : (at : ℕ) → at ≡ 41 + length (beforeZero (part s 41 56)) → allZero (part s at 56) ≡ allFine (modelFields s)
-  model-is at e =
-      let p : bytesAt 15 s 41 ≡ part s 41 56 = part-is 15 s 41 (omega arith) in
-      let n : ℕ = length (beforeZero (part s 41 56)) in
-      let b : 15 - n ≡ 56 - (41 + n) = omega arith in
-      rw e
-      (sym (and-true (zerosBehind (bytesAt 15 s 41)) ∙ ap zerosBehind p ∙ behind-is (part s 41 56)
-      ∙ ap allZero (drop-take n 15 (drop 41 s) ∙ ap (take (15 - n)) (drop-drop n 41 s) ∙ ap (λ (m : ℕ). take m (drop (41 + n) s)) b)))
+-- ---- the model, from its first zero on
+
+pub model-is : (s : List ℕ) (at : ℕ) → at + modelRoom ≤ length s → (first : ℕ) → first ≡ at + length (beforeZero (part s at (at + modelRoom)))
+    → allZero (part s first (at + modelRoom)) ≡ zerosBehind (bytesAt modelRoom s at)
+model-is s at h first e =
+    let all : at + modelRoom - at ≡ modelRoom = omega arith in
+    let p : bytesAt modelRoom s at ≡ part s at (at + modelRoom) = part-is modelRoom s at h ∙ ap (λ (m : ℕ). take m (drop at s)) (sym all) in
+    let n : ℕ = length (beforeZero (part s at (at + modelRoom))) in
+    let b : at + modelRoom - at - n ≡ at + modelRoom - (at + n) = omega arith in
+    rw e
+    (sym (ap zerosBehind p ∙ behind-is (part s at (at + modelRoom))
+    ∙ ap allZero (drop-take n (at + modelRoom - at) (drop at s) ∙ ap (take (at + modelRoom - at - n)) (drop-drop n at s) ∙ ap (λ (m : ℕ). take m (drop (at + n) s)) b)))
 
 -- ---- the check as a chain of its groups
 
@@ -136,9 +156,9 @@ all-join : (gs : List (List Field)) → allFine (join gs) ≡ chain gs
 all-join [] = refl
 all-join (g ∷ gs) = all-append g (join gs) ∙ ap (λ (c : Bool). allFine g && c) (all-join gs)
 
-form-is : (s : List ℕ) → formOf s ≡ formBy (eqb (length s) 123 && chain (groupsOf s))
+form-is : (s : List ℕ) → formOf s ≡ formBy (eqb (length s) recordSize && chain (groupsOf s))
 unfolding wellFormed
-form-is s = ap (λ (c : Bool). formBy (eqb (length s) 123 && c)) (all-join (groupsOf s))
+form-is s = ap (λ (c : Bool). formBy (eqb (length s) recordSize && c)) (all-join (groupsOf s))
 
 chain-no : (gs : List (List Field)) (k : ℕ) → allFine (getD gs k []) ≡ false → chain gs ≡ false
 chain-no [] k e = e
@@ -149,12 +169,12 @@ chain-no (g ∷ gs) (suc k) e = rw (chain-no gs k e) (no (allFine g))
     no true = refl
     no false = refl
 
-pub short : (s : List ℕ) → (length s ≡ 123 → ⊥) → Bad ≡ formOf s
-short s h = sym (form-is s ∙ rw (ne-eqb (length s) 123 h) refl)
+pub short : (s : List ℕ) → (length s ≡ recordSize → ⊥) → Bad ≡ formOf s
+short s h = sym (form-is s ∙ rw (ne-eqb (length s) recordSize h) refl)
 
-module _ (s : List ℕ) (whole : length s ≡ 123) where
+module _ (s : List ℕ) (whole : length s ≡ recordSize) where
   by-chain : formOf s ≡ formBy (chain (groupsOf s))
-  by-chain = form-is s ∙ rw (eq-eqb (length s) 123 whole) refl
+  by-chain = form-is s ∙ rw (eq-eqb (length s) recordSize whole) refl
 
   -- a group that fails, and all that hold
   pub bad : (k : ℕ) → allFine (getD (groupsOf s) k []) ≡ false → Bad ≡ formOf s

@@ -3,6 +3,7 @@ use Prim.Native.Nat.{ℕ, _+_, _-_, _<_}
 use mathlib.Core.Path.{_≡_, refl}
 use mathlib.Core.Bool.{Bool, true, false, cond, not, _&&_, and-assoc, and-true}
 use mathlib.Core.List.{List}
+use native.Mathlib.Nat.{add-zero}
 use native.Mathlib.Omega.{arith}
 use lib.ListN.{length, getD}
 use lib.Dec.{ltb, leb, eqb}
@@ -15,7 +16,7 @@ use Rattle.record.specs.Limits.{powerRange, inputRange, intervalRange, nameByte
 use Rattle.peak.specs.Pairs.{finite, pairFits, pairAt}
 use Rattle.peak.specs.Floats.{floatOf}
 use Rattle.peak.proofs.Order.{pair-test}
-use Rattle.record.specs.Layout.{bitOf}
+use Rattle.record.specs.Layout.{channels, nameRoom, atFlags, atPairs, bitOf}
 use Rattle.record.specs.Form.{several, allFine, headFields, radioFields, inputFields, switchFields, pairFields}
 use Rattle.form.proofs.Tests.{fits-low, fits-filter}
 
@@ -40,11 +41,11 @@ module _ (s : List ℕ) where
     abbrev pairAtFits : ℕ → Bool
     pairAtFits at = pairFits reading (pairAt s at)
 
-    pub pairs-is : (a b c d e f : Bool) → a ≡ pairAtFits 75 → b ≡ pairAtFits 83 → c ≡ pairAtFits 91 → d ≡ pairAtFits 99 → e ≡ pairAtFits 107 → f ≡ pairAtFits 115
-        → (((((a && b) && c) && d) && e) && f) ≡ allFine (several 6 8 (λ k. pairAtFits (75 + k)) 75 0)
-    pairs-is a b c d e f ha hb hc hd he hf = rw (ha, hb, hc, hd, he, hf) (simp (and-assoc, and-true))
+    pub pairs-is : (at : ℕ) (a b c d e f : Bool) → a ≡ pairAtFits at → b ≡ pairAtFits (at + 8) → c ≡ pairAtFits (at + 16) → d ≡ pairAtFits (at + 24) → e ≡ pairAtFits (at + 32) → f ≡ pairAtFits (at + 40)
+        → (((((a && b) && c) && d) && e) && f) ≡ allFine (several channels 8 (λ k. pairAtFits (at + k)) at 0)
+    pairs-is at a b c d e f ha hb hc hd he hf = rw (ha, hb, hc, hd, he, hf) (simp (add-zero, and-assoc, and-true))
 
-    pub pairs-by : bitOf (getD s 3 0) 8 ≡ reading → allFine (several 6 8 (λ k. pairAtFits (75 + k)) 75 0) ≡ allFine (pairFields s)
+    pub pairs-by : bitOf (getD s atFlags 0) 8 ≡ reading → allFine (several channels 8 (λ k. pairAtFits (atPairs + k)) atPairs 0) ≡ allFine (pairFields s)
     pairs-by e = rw e refl
 
   -- a pair of two patterns, by the floats of finite ones
@@ -63,6 +64,6 @@ module _ (s : List ℕ) where
       by true = refl
       by false = refl
 
-  pub name-room-is : ((((((((((((((leb (getD s 26 0) 127 && leb (getD s 27 0) 127) && leb (getD s 28 0) 127) && leb (getD s 29 0) 127) && leb (getD s 30 0) 127) && leb (getD s 31 0) 127) && leb (getD s 32 0) 127) && leb (getD s 33 0) 127) && leb (getD s 34 0) 127) && leb (getD s 35 0) 127) && leb (getD s 36 0) 127) && leb (getD s 37 0) 127) && leb (getD s 38 0) 127) && leb (getD s 39 0) 127) && leb (getD s 40 0) 127) ≡ fits (nameRange (bytesAt 15 s 26))
+  pub name-room-is : ((((((((((((((leb (getD s 0 0) 127 && leb (getD s 1 0) 127) && leb (getD s 2 0) 127) && leb (getD s 3 0) 127) && leb (getD s 4 0) 127) && leb (getD s 5 0) 127) && leb (getD s 6 0) 127) && leb (getD s 7 0) 127) && leb (getD s 8 0) 127) && leb (getD s 9 0) 127) && leb (getD s 10 0) 127) && leb (getD s 11 0) 127) && leb (getD s 12 0) 127) && leb (getD s 13 0) 127) && leb (getD s 14 0) 127) ≡ fits (nameRange (bytesAt nameRoom s 0))
   unfolding nameRange
   name-room-is = simp (low-name, and-assoc, and-true)

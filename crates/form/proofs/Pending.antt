@@ -1,8 +1,9 @@
--- The pending bytes, as the check reads them at their places.
+-- The pending bytes, as the check reads them from a place on.
 use Prim.Native.Nat.{ℕ, zero, suc, _+_, _-_, _%_, _≤_, _<_}
-use mathlib.Core.Path.{_≡_, refl, sym, _∙_}
+use mathlib.Core.Path.{_≡_, refl, sym, ap, _∙_}
 use mathlib.Core.Bool.{true, false, _&&_}
 use mathlib.Core.List.{List}
+use native.Mathlib.Nat.{add-zero}
 use native.Mathlib.Omega.{arith}
 use lib.ListN.{length, getD, take, drop, length-drop}
 use lib.Seq.{getD-take, getD-drop, length-take-le}
@@ -11,17 +12,20 @@ use Rattle.wire.specs.Frames.{waits}
 use Rattle.wire.specs.Serial.{serial}
 use Rattle.wire.proofs.SerialLaws.{waits-none, waits-not, waits-one, waits-head}
 
-module _ (s : List ℕ) (n : ℕ) (whole : length s ≡ 123) (few : n ≤ 18) where
+module _ (s : List ℕ) (at n : ℕ) (within : at + n ≤ length s) where
   abbrev pending : List ℕ
-  pending = take n (drop 57 s)
+  pending = take n (drop at s)
 
   long : length pending ≡ n
-  long = length-take-le n (drop 57 s) (rw (length-drop 57 s) (omega arith))
+  long = length-take-le n (drop at s) (rw (length-drop at s) (omega arith))
 
-  at-place : (i : ℕ) → i < n → getD pending i 0 ≡ getD s (57 + i) 0
-  at-place i h = getD-take n (drop 57 s) i 0 h ∙ getD-drop 57 s i 0
+  at-place : (i : ℕ) → i < n → getD pending i 0 ≡ getD s (at + i) 0
+  at-place i h = getD-take n (drop at s) i 0 h ∙ getD-drop at s i 0
 
-  pub none : n ≡ 0 → true ≡ waits serial (take n (drop 57 s))
+  at-first : 0 < n → getD pending 0 0 ≡ getD s at 0
+  at-first h = at-place 0 h ∙ ap (λ (k : ℕ). getD s k 0) (add-zero at)
+
+  pub none : n ≡ 0 → true ≡ waits serial (take n (drop at s))
   none e = sym (waits-none pending (long ∙ e))
 
   module _ (some : n ≡ 0 → ⊥) where
@@ -32,17 +36,17 @@ module _ (s : List ℕ) (n : ℕ) (whole : length s ≡ 123) (few : n ≤ 18) wh
         pos zero h = absurd (h refl)
         pos (suc m) h = omega arith
 
-    pub not-aa : (getD s 57 0 ≡ 0xAA → ⊥) → false ≡ waits serial (take n (drop 57 s))
-    not-aa e = sym (waits-not pending more (λ q. e (sym (at-place 0 (omega (arith, more, long))) ∙ q)))
+    pub not-aa : (getD s at 0 ≡ 0xAA → ⊥) → false ≡ waits serial (take n (drop at s))
+    not-aa e = sym (waits-not pending more (λ q. e (sym (at-first (omega (arith, more, long))) ∙ q)))
 
-    module _ (aa : getD s 57 0 ≡ 0xAA) where
+    module _ (aa : getD s at 0 ≡ 0xAA) where
       first : getD pending 0 0 ≡ 0xAA
-      first = at-place 0 (omega (arith, more, long)) ∙ aa
+      first = at-first (omega (arith, more, long)) ∙ aa
 
-      pub one : n ≡ 1 → true ≡ waits serial (take n (drop 57 s))
+      pub one : n ≡ 1 → true ≡ waits serial (take n (drop at s))
       one e = sym (waits-one pending more first (long ∙ e))
 
-      pub head : (n ≡ 1 → ⊥) → ((leb 0x90 (getD s 58 0) && leb (getD s 58 0) 0xAF) && ltb n (4 + getD s 58 0 % 16)) ≡ waits serial (take n (drop 57 s))
+      pub head : (n ≡ 1 → ⊥) → ((leb 0x90 (getD s (at + 1) 0) && leb (getD s (at + 1) 0) 0xAF) && ltb n (4 + getD s (at + 1) 0 % 16)) ≡ waits serial (take n (drop at s))
       head e =
           let two : 1 < length pending = rw long (above n some e) in
           sym (waits-head pending more first two ∙ rw (at-place 1 (omega (arith, two, long)), long) refl)

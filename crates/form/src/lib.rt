@@ -1,26 +1,55 @@
 // Which bytes are a board record: one function for each group of fields, in record order.
 ghost use mathlib.Core.Path.{_≡_};
 ghost use mathlib.Core.Bool.{true, false};
-ghost use Prim.Native.Nat.{_+_, _-_, _≤_};
+ghost use Prim.Native.Nat.{_+_, _-_, _*_, _≤_};
 ghost use lib.ListN.{length, take, drop};
 ghost use Rattle.wire.specs.Numbers.{bytesAt};
 ghost use Rattle.wire.specs.Ranges.{fits};
 ghost use Rattle.wire.specs.Frames.{waits};
 ghost use Rattle.wire.specs.Serial.{serial};
 ghost use Rattle.peak.specs.Pairs.{pairFits, pairAt};
+ghost use Rattle.record.specs.Layout.{recordSize, channels, nameRoom, modelRoom, atCode, atInputs, atOutputs, atName, atModel, atPairs};
 ghost use Rattle.record.specs.Limits.{powerRange, intervalRange, nameRange, beforeZero};
-ghost use Rattle.record.specs.Form.{several, allFine, allZero, headFields, radioFields, inputFields, switchFields, nameFields, modelFields, pendingFields, pairFields, formOf};
+ghost use Rattle.record.specs.Form.{several, allFine, allZero, zerosBehind, headFields, radioFields, inputFields, switchFields, nameFields, pendingFields, pairFields, formOf};
 use peak::finite_float;
 use peak::is_finite;
 use record::Form;
+use record::places::AT_FILTER;
+use record::places::AT_FLAGS;
+use record::places::AT_INPUTS;
+use record::places::AT_INTERVAL;
+use record::places::AT_MODE;
+use record::places::AT_MODEL;
+use record::places::AT_NAME;
+use record::places::AT_NAME_BYTES;
+use record::places::AT_ON_OFF;
+use record::places::AT_OUTPUTS;
+use record::places::AT_PAIRS;
+use record::places::AT_PENDING;
+use record::places::AT_POWER;
+use record::places::AT_SIZE;
+use record::places::AT_STEP;
+use record::places::AT_TRIES;
+use record::places::AT_VERSION;
+use record::places::AT_WAITING;
+use record::places::FILTERS;
+use record::places::MODEL_ROOM;
+use record::places::NAME_ROOM;
+use record::places::PENDING_ROOM;
+use record::places::RECORD_SIZE;
+use record::places::SIZE_FIELD;
+use record::places::VERSION;
 use wire::numbers::half_at;
 use wire::numbers::word_at;
 
 fn head_fine(s: &[u8]) -> bool
-    requires { ⌜ length (now s) ≡ 123 ⌝ }
+    requires { ⌜ atCode ≤ length (now s) ⌝ }
     ensures { λ r. ⌜ r ≡ allFine (headFields (now (s .entry))) ⌝ }
 {
-    (half_at(s, 0) == 123) & (s[2] == 1) & (s[3] < 16) & (s[4] <= 3)
+    (half_at(s, AT_SIZE) == SIZE_FIELD)
+        & (s[AT_VERSION] == VERSION)
+        & (s[AT_FLAGS] < 16)
+        & (s[AT_TRIES] <= 3)
 }
 
 fn power_fine(w: u16) -> bool
@@ -36,26 +65,30 @@ fn interval_fine(b: u8) -> bool
 }
 
 fn radio_fine(s: &[u8]) -> bool
-    requires { ⌜ length (now s) ≡ 123 ⌝ }
+    requires { ⌜ atInputs ≤ length (now s) ⌝ }
     ensures { λ r. ⌜ r ≡ allFine (radioFields (now (s .entry))) ⌝ }
 {
-    let power = power_fine(half_at(s, 9));
-    power & (s[11] <= 5) & (s[12] <= 1) & (s[13] <= 2)
+    let power = power_fine(half_at(s, AT_POWER));
+    power & (s[AT_STEP] <= 5) & (s[AT_MODE] <= 1) & (s[AT_ON_OFF] <= 2)
 }
 
 fn inputs_fine(s: &[u8]) -> bool
-    requires { ⌜ length (now s) ≡ 123 ⌝ }
+    requires { ⌜ atOutputs ≤ length (now s) ⌝ }
     ensures { λ r. ⌜ r ≡ allFine (inputFields (now (s .entry))) ⌝ }
 {
-    (s[14] <= 1) & (s[15] <= 1) & (s[16] <= 1) & (s[17] <= 1) & (s[18] <= 1)
+    (s[AT_INPUTS] <= 1)
+        & (s[AT_INPUTS + 1] <= 1)
+        & (s[AT_INPUTS + 2] <= 1)
+        & (s[AT_INPUTS + 3] <= 1)
+        & (s[AT_INPUTS + 4] <= 1)
 }
 
 fn switches_fine(s: &[u8]) -> bool
-    requires { ⌜ length (now s) ≡ 123 ⌝ }
+    requires { ⌜ atName ≤ length (now s) ⌝ }
     ensures { λ r. ⌜ r ≡ allFine (switchFields (now (s .entry))) ⌝ }
 {
-    let interval = interval_fine(s[20]);
-    (s[19] < 16) & interval & (word_at(s, 21) < 64)
+    let interval = interval_fine(s[AT_INTERVAL]);
+    (s[AT_OUTPUTS] < 16) & interval & (word_at(s, AT_FILTER) < FILTERS)
 }
 
 // The place behind those words of four zeros that stand from a place on.
@@ -119,77 +152,79 @@ pub fn first_zero(s: &[u8], from: usize, to: usize) -> usize
 }
 
 // Whether the whole room of the name holds bytes that may stand in one: zeros behind it may.
-fn name_room(s: &[u8]) -> bool
-    requires { ⌜ length (now s) ≡ 123 ⌝ }
-    ensures { λ r. ⌜ r ≡ fits (nameRange (bytesAt 15 (now (s .entry)) 26)) ⌝ }
+fn name_room(p: &[u8]) -> bool
+    requires { ⌜ length (now p) ≡ nameRoom ⌝ }
+    ensures { λ r. ⌜ r ≡ fits (nameRange (bytesAt nameRoom (now (p .entry)) 0)) ⌝ }
 {
-    (s[26] <= 0x7F)
-        & (s[27] <= 0x7F)
-        & (s[28] <= 0x7F)
-        & (s[29] <= 0x7F)
-        & (s[30] <= 0x7F)
-        & (s[31] <= 0x7F)
-        & (s[32] <= 0x7F)
-        & (s[33] <= 0x7F)
-        & (s[34] <= 0x7F)
-        & (s[35] <= 0x7F)
-        & (s[36] <= 0x7F)
-        & (s[37] <= 0x7F)
-        & (s[38] <= 0x7F)
-        & (s[39] <= 0x7F)
-        & (s[40] <= 0x7F)
+    (p[0] <= 0x7F)
+        & (p[1] <= 0x7F)
+        & (p[2] <= 0x7F)
+        & (p[3] <= 0x7F)
+        & (p[4] <= 0x7F)
+        & (p[5] <= 0x7F)
+        & (p[6] <= 0x7F)
+        & (p[7] <= 0x7F)
+        & (p[8] <= 0x7F)
+        & (p[9] <= 0x7F)
+        & (p[10] <= 0x7F)
+        & (p[11] <= 0x7F)
+        & (p[12] <= 0x7F)
+        & (p[13] <= 0x7F)
+        & (p[14] <= 0x7F)
 }
 
 fn name_fine(s: &[u8]) -> bool
-    requires { ⌜ length (now s) ≡ 123 ⌝ }
+    requires { ⌜ atModel ≤ length (now s) ⌝ }
     ensures { λ r. ⌜ r ≡ allFine (nameFields (now (s .entry))) ⌝ }
 {
-    let n = s[25] as usize;
-    if 15 < n {
+    let n = s[AT_NAME] as usize;
+    if NAME_ROOM < n {
         return false;
     }
-    if name_room(s) {
-        return zeros(s, 26 + n, 41);
+    if name_room(&s[AT_NAME_BYTES..AT_MODEL]) {
+        return zeros(s, AT_NAME_BYTES + n, AT_MODEL);
     }
     false
 }
 
-fn model_fine(s: &[u8]) -> bool
-    requires { ⌜ length (now s) ≡ 123 ⌝ }
-    ensures { λ r. ⌜ r ≡ allFine (modelFields (now (s .entry))) ⌝ }
+// Whether a model stands at a place: all zero from its first zero.
+fn model_fine(s: &[u8], at: usize) -> bool
+    requires { ⌜ at + modelRoom ≤ length (now s) ⌝ }
+    ensures { λ r. ⌜ r ≡ zerosBehind (bytesAt modelRoom (now (s .entry)) at) ⌝ }
 {
-    let at = first_zero(s, 41, 56);
-    zeros(s, at, 56)
+    let end = at + MODEL_ROOM;
+    let zero = first_zero(s, at, end);
+    zeros(s, zero, end)
 }
 
-// Whether n bytes from place 57 on are such as the hunt leaves waiting.
-fn waiting_fine(s: &[u8], n: usize) -> bool
-    requires { ⌜ (length (now s) ≡ 123) × (n ≤ 18) ⌝ }
-    ensures { λ r. ⌜ r ≡ waits serial (take n (drop 57 (now (s .entry)))) ⌝ }
+// Whether n bytes from a place on are such as the hunt leaves waiting.
+fn waiting_fine(s: &[u8], at: usize, n: usize) -> bool
+    requires { ⌜ at + n ≤ length (now s) ⌝ }
+    ensures { λ r. ⌜ r ≡ waits serial (take n (drop at (now (s .entry)))) ⌝ }
 {
     if n == 0 {
         return true;
     }
-    if s[57] != 0xAA {
+    if s[at] != 0xAA {
         return false;
     }
     if n == 1 {
         return true;
     }
-    let head = s[58];
+    let head = s[at + 1];
     (0x90 <= head) & (head <= 0xAF) & (n < 4 + (head % 16) as usize)
 }
 
 fn pending_fine(s: &[u8]) -> bool
-    requires { ⌜ length (now s) ≡ 123 ⌝ }
+    requires { ⌜ atPairs ≤ length (now s) ⌝ }
     ensures { λ r. ⌜ r ≡ allFine (pendingFields (now (s .entry))) ⌝ }
 {
-    let n = s[56] as usize;
-    if 18 < n {
+    let n = s[AT_PENDING] as usize;
+    if PENDING_ROOM < n {
         return false;
     }
-    if waiting_fine(s, n) {
-        return zeros(s, 57 + n, 75);
+    if waiting_fine(s, AT_WAITING, n) {
+        return zeros(s, AT_WAITING + n, AT_PAIRS);
     }
     false
 }
@@ -216,44 +251,44 @@ fn pair_seen(s: &[u8], at: usize) -> bool
     !below
 }
 
-fn pairs_none(s: &[u8]) -> bool
-    requires { ⌜ length (now s) ≡ 123 ⌝ }
-    ensures { λ r. ⌜ r ≡ allFine (several 6 8 (λ k. pairFits false (pairAt (now (s .entry)) (75 + k))) 75 0) ⌝ }
+fn pairs_none(s: &[u8], at: usize) -> bool
+    requires { ⌜ at + channels * 8 ≤ length (now s) ⌝ }
+    ensures { λ r. ⌜ r ≡ allFine (several channels 8 (λ k. pairFits false (pairAt (now (s .entry)) (at + k))) at 0) ⌝ }
 {
-    pair_none(s, 75)
-        & pair_none(s, 83)
-        & pair_none(s, 91)
-        & pair_none(s, 99)
-        & pair_none(s, 107)
-        & pair_none(s, 115)
+    pair_none(s, at)
+        & pair_none(s, at + 8)
+        & pair_none(s, at + 16)
+        & pair_none(s, at + 24)
+        & pair_none(s, at + 32)
+        & pair_none(s, at + 40)
 }
 
-fn pairs_seen(s: &[u8]) -> bool
-    requires { ⌜ length (now s) ≡ 123 ⌝ }
-    ensures { λ r. ⌜ r ≡ allFine (several 6 8 (λ k. pairFits true (pairAt (now (s .entry)) (75 + k))) 75 0) ⌝ }
+fn pairs_seen(s: &[u8], at: usize) -> bool
+    requires { ⌜ at + channels * 8 ≤ length (now s) ⌝ }
+    ensures { λ r. ⌜ r ≡ allFine (several channels 8 (λ k. pairFits true (pairAt (now (s .entry)) (at + k))) at 0) ⌝ }
 {
-    pair_seen(s, 75)
-        & pair_seen(s, 83)
-        & pair_seen(s, 91)
-        & pair_seen(s, 99)
-        & pair_seen(s, 107)
-        & pair_seen(s, 115)
+    pair_seen(s, at)
+        & pair_seen(s, at + 8)
+        & pair_seen(s, at + 16)
+        & pair_seen(s, at + 24)
+        & pair_seen(s, at + 32)
+        & pair_seen(s, at + 40)
 }
 
 fn pairs_fine(s: &[u8]) -> bool
-    requires { ⌜ length (now s) ≡ 123 ⌝ }
+    requires { ⌜ recordSize ≤ length (now s) ⌝ }
     ensures { λ r. ⌜ r ≡ allFine (pairFields (now (s .entry))) ⌝ }
 {
-    if s[3] / 8 % 2 == 1 {
-        return pairs_seen(s);
+    if s[AT_FLAGS] / 8 % 2 == 1 {
+        return pairs_seen(s, AT_PAIRS);
     }
-    pairs_none(s)
+    pairs_none(s, AT_PAIRS)
 }
 
 pub fn form_of(s: &[u8]) -> Form
     ensures { λ r. ⌜ r ≡ formOf (now (s .entry)) ⌝ }
 {
-    if s.len() != 123 {
+    if s.len() != RECORD_SIZE {
         return Form::Bad;
     }
     if !head_fine(s) {
@@ -271,7 +306,7 @@ pub fn form_of(s: &[u8]) -> Form
     if !name_fine(s) {
         return Form::Bad;
     }
-    if !model_fine(s) {
+    if !model_fine(s, AT_MODEL) {
         return Form::Bad;
     }
     if !pending_fine(s) {

@@ -4,6 +4,7 @@ use mathlib.Core.Path.{_≡_, refl}
 use mathlib.Core.List.{List, [], _∷_, _++_}
 use native.Mathlib.Omega.{arith}
 use lib.ListN.{length, length-append}
+use Rattle.wire.specs.Sizes.{frameMost, streamMost}
 use Rattle.wire.specs.Numbers.{Bytes}
 use Rattle.wire.specs.Frames.{Piece, Whole, Broken, cut}
 use Rattle.wire.specs.Serial.{serial}
@@ -27,7 +28,7 @@ four (Whole f ∷ ps) h = omega (arith, four ps (h .1), h .0 .0)
 four (Broken head ∷ ps) h = four ps (h .1)
 
 -- and at most nineteen of reply
-nineteen : (r : Record) (ps : List Piece) → All Fair ps → InRange r → length (written (runs answer r ps .said)) ≤ 19 * frames ps
+nineteen : (r : Record) (ps : List Piece) → All Fair ps → InRange r → length (written (runs answer r ps .said)) ≤ frameMost * frames ps
 unfolding All frames runs
 nineteen r [] f i = omega (arith, length-none)
 nineteen r (Whole f ∷ ps) h i =
@@ -46,5 +47,5 @@ room-enough r input b i =
     omega (arith, nineteen r (cut serial l .pieces) fair i, four (cut serial l .pieces) fair, conserved serial l, n)
 
 -- "So 4,096 bytes with 18 pending need 19,532 bytes of room."
-pub most-room : roomFor (18 + 4096) ≡ 19532
+pub most-room : roomFor streamMost ≡ 19532
 most-room = refl

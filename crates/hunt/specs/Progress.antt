@@ -1,9 +1,10 @@
 -- What the hunting code has done so far: with what is left it gives the whole.
-use Prim.Native.Nat.{ℕ, _+_, _-_, _*_, _/_, _≤_}
+use Prim.Native.Nat.{ℕ, _+_, _-_, _≤_}
 use mathlib.Core.Path.{_≡_}
 use mathlib.Core.Logic.{_⊎_}
 use mathlib.Core.List.{List, _++_}
 use lib.ListN.{length, take, drop}
+use Rattle.wire.specs.Sizes.{frameMost}
 use Rattle.wire.specs.Numbers.{put}
 use Rattle.wire.specs.Frames.{look, Wait}
 use Rattle.wire.specs.Serial.{serial}
@@ -12,7 +13,7 @@ use Rattle.wire.specs.Run.{hunt, ahead}
 use Rattle.record.specs.Record.{Record, withPending}
 use Rattle.record.specs.Layout.{bytesOf}
 use Rattle.record.specs.Place.{Holds, Turns}
-use Rattle.hunt.specs.Hunt.{huntFrom, huntOf, recordAfter}
+use Rattle.hunt.specs.Hunt.{huntFrom, huntOf, recordAfter, roomFor}
 use Rattle.hunt.specs.declared.Progress.{Progress}
 use Rattle.hunt.specs.declared.Served.{Served}
 
@@ -26,7 +27,7 @@ pub record Along (r : Record) (l : List ℕ) (b : Record) (at skipped : ℕ) (sa
 pub record Sofar (r : Record) (l before : List ℕ) (start : ℕ) (b : Record) (at skipped wrote : ℕ) (out : List ℕ) : Type 0 where
   pub said : List Reply
   pub along : Along r l b at skipped said
-  pub room : length (written said) ≤ 19 * (at / 4)
+  pub room : length (written said) ≤ roomFor at
   pub wrote-is : wrote ≡ start + length (written said)
   pub bytes : out ≡ put before start (written said)
 
@@ -49,7 +50,7 @@ pub record Rests (r : Record) (l before : List ℕ) (start : ℕ) (p : Progress)
 
 -- the first n bytes of a buffer are the pending bytes and as much of the input as a candidate that starts in them can reach
 abbrev pub Joins : List ℕ → List ℕ → ℕ → List ℕ → Type 0
-Joins pending input n head = (n ≡ length pending + (length input - (length input - 19))) × (take n head ≡ pending ++ take (length input - (length input - 19)) input)
+Joins pending input n head = (n ≡ length pending + (length input - (length input - frameMost))) × (take n head ≡ pending ++ take (length input - (length input - frameMost)) input)
 
 -- what a bytes call that passed its checks leaves
 pub record Serves (r : Record) (input before : List ℕ) (t : Served) (kept out : List ℕ) : Type 0 where

@@ -1,8 +1,9 @@
 // Received bytes: every frame of the stream carried out, and what waits kept.
 ghost use mathlib.Core.Path.{_≡_};
-ghost use Prim.Native.Nat.{_+_, _-_, _*_, _/_, _≤_};
+ghost use Prim.Native.Nat.{_+_, _-_, _≤_};
 ghost use lib.ListN.{length, take, drop};
-ghost use Rattle.record.specs.Layout.{recordOf};
+ghost use Rattle.wire.specs.Sizes.{frameMost, inputMost, streamMost, joinMost};
+ghost use Rattle.record.specs.Layout.{pendingRoom, atWaiting, atPairs, recordOf};
 ghost use Rattle.record.specs.Place.{Sound};
 ghost use Rattle.hunt.specs.Hunt.{roomFor};
 ghost use Rattle.hunt.specs.Progress.{Hunts, Rests, Joins, Serves};
@@ -10,7 +11,12 @@ use carry::carry;
 use finder::Seen;
 use finder::find;
 use parts::set_pending;
+use record::places::AT_PENDING;
+use record::places::AT_WAITING;
+use record::places::PENDING_ROOM;
 use wire::buffer::put_in;
+use wire::sizes::FRAME_MOST;
+use wire::sizes::JOIN_MOST;
 
 // How far a hunt came: the place in its stream, the place in the output, the bytes skipped.
 pub struct Progress {
@@ -27,17 +33,17 @@ pub struct Served {
 
 // The output that the replies to pending bytes and input can fill.
 pub fn room_for(held: usize, len: usize) -> usize
-    requires { ⌜ (held ≤ 18) × (len ≤ 4096) ⌝ }
+    requires { ⌜ (held ≤ pendingRoom) × (len ≤ inputMost) ⌝ }
     ensures { λ n. ⌜ n ≡ roomFor (held + len) ⌝ }
 {
-    19 * ((held + len) / 4)
+    FRAME_MOST * ((held + len) / 4)
 }
 
 // Hunts through s up to the first piece that begins at `until` or later; writes the replies from a place on.
 fn hunt_in(rec: &mut [u8], s: &[u8], until: usize, out: &mut [u8], start: usize) -> Progress
     requires { ⌜ Sound (now rec) ⌝ }
-    requires { ⌜ (until ≤ length (now s)) × (length (now s) ≤ 4114) ⌝ }
-    requires { ⌜ start + 19 * (length (now s) / 4) ≤ length (now out) ⌝ }
+    requires { ⌜ (until ≤ length (now s)) × (length (now s) ≤ streamMost) ⌝ }
+    requires { ⌜ start + roomFor (length (now s)) ≤ length (now out) ⌝ }
     ensures { λ p. ⌜ Hunts (recordOf (now (rec .entry))) (now (s .entry)) (now (out .entry)) until start p (now (rec .exit)) (now (out .exit)) ⌝ }
 {
     let mut at = 0;
@@ -70,52 +76,52 @@ fn hunt_in(rec: &mut [u8], s: &[u8], until: usize, out: &mut [u8], start: usize)
 
 // What a candidate that starts in the pending bytes can reach of the input.
 fn reach(len: usize) -> usize
-    ensures { λ n. ⌜ n ≡ len - (len - 19) ⌝ }
+    ensures { λ n. ⌜ n ≡ len - (len - frameMost) ⌝ }
 {
-    if len < 19 {
+    if len < FRAME_MOST {
         return len;
     }
-    19
+    FRAME_MOST
 }
 
 // Joins the pending bytes and as much of the input as a candidate that starts in them can reach.
 fn join(rec: &[u8], held: usize, input: &[u8], head: &mut [u8]) -> usize
-    requires { ⌜ (length (now rec) ≡ 123) × (held ≤ 18) × (length (now head) ≡ 37) ⌝ }
-    ensures { λ n. ⌜ Joins (take held (drop 57 (now (rec .entry)))) (now (input .entry)) n (now (head .exit)) ⌝ }
+    requires { ⌜ (atPairs ≤ length (now rec)) × (held ≤ pendingRoom) × (length (now head) ≡ joinMost) ⌝ }
+    ensures { λ n. ⌜ Joins (take held (drop atWaiting (now (rec .entry)))) (now (input .entry)) n (now (head .exit)) ⌝ }
 {
     let n = reach(input.len());
-    let end = put_in(head, 0, &rec[57..57 + held]);
+    let end = put_in(head, 0, &rec[AT_WAITING..AT_WAITING + held]);
     put_in(head, end, &input[..n])
 }
 
 // Hunts through all of a stream; what waits at its end becomes the pending bytes.
 fn hunt_rest(rec: &mut [u8], s: &[u8], out: &mut [u8], start: usize) -> Progress
     requires { ⌜ Sound (now rec) ⌝ }
-    requires { ⌜ length (now s) ≤ 4114 ⌝ }
-    requires { ⌜ start + 19 * (length (now s) / 4) ≤ length (now out) ⌝ }
+    requires { ⌜ length (now s) ≤ streamMost ⌝ }
+    requires { ⌜ start + roomFor (length (now s)) ≤ length (now out) ⌝ }
     ensures { λ p. ⌜ Rests (recordOf (now (rec .entry))) (now (s .entry)) (now (out .entry)) start p (now (rec .exit)) (now (out .exit)) ⌝ }
 {
     let len = s.len();
     let p = hunt_in(rec, s, len, out, start);
     let at = p.at;
-    set_pending(rec, 56, 18, &s[at..len]);
+    set_pending(rec, AT_PENDING, PENDING_ROOM, &s[at..len]);
     p
 }
 
 // The whole of a bytes call that passed its checks: first candidates that start in the pending bytes, then the input itself.
 pub fn serve(rec: &mut [u8], input: &[u8], out: &mut [u8]) -> Served
     requires { ⌜ Sound (now rec) ⌝ }
-    requires { ⌜ length (now input) ≤ 4096 ⌝ }
+    requires { ⌜ length (now input) ≤ inputMost ⌝ }
     requires { ⌜ roomFor (length (recordOf (now rec) .pending) + length (now input)) ≤ length (now out) ⌝ }
     ensures { λ t. ⌜ Serves (recordOf (now (rec .entry))) (now (input .entry)) (now (out .entry)) t (now (rec .exit)) (now (out .exit)) ⌝ }
 {
-    let held = rec[56] as usize;
-    let mut head = [0u8; 37];
+    let held = rec[AT_PENDING] as usize;
+    let mut head = [0u8; JOIN_MOST];
     let total = join(rec, held, input, &mut head);
     let first = hunt_in(rec, &head[..total], held, out, 0);
     let at = first.at;
     if at < held {
-        set_pending(rec, 56, 18, &head[at..total]);
+        set_pending(rec, AT_PENDING, PENDING_ROOM, &head[at..total]);
         return Served {
             written: first.wrote,
             skipped: first.skipped,

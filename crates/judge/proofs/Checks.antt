@@ -1,6 +1,6 @@
 -- What each check of the code finds is what the judge's definitions say.
 use Prim.Native.Nat.{ℕ, _-_, _/_, _%_, _≤_, _<_, zero-le}
-use mathlib.Core.Path.{_≡_, refl, sym, ap, _∙_}
+use mathlib.Core.Path.{_≡_, refl, sym, ap, ap₂, _∙_}
 use mathlib.Core.Bool.{Bool, true, false, cond}
 use mathlib.Core.List.{List}
 use native.Mathlib.Nat.{le-refl, le-trans}
@@ -12,10 +12,13 @@ use Rattle.wire.specs.Numbers.{wordAt}
 use Rattle.wire.specs.declared.Range.{Range}
 use Rattle.wire.specs.declared.Range.the-variants.{Fits, Big, Small}
 use Rattle.record.specs.Record.{Record}
-use Rattle.record.specs.Layout.{atFlags, atTries, atCode, flagsByte, bytesOf, bitOf}
-use Rattle.record.specs.Place.{Shows}
+use Rattle.record.specs.Layout.{FlagByte, Plan, place, atFlags, atTries, atCode, flagsByte, bytesIn, bytesOf, bitOf}
+use Rattle.record.specs.Laid.{Laid}
+use Rattle.record.specs.Place.{Shows, ShowsAt}
 use Rattle.record.proofs.Choices.{bits-back}
-use Rattle.record.proofs.Lens.{get-flags, get-tries, get-code}
+use Rattle.record.proofs.Lens.{get-tries, get-code}
+use Rattle.record.proofs.Stores.{get-flagsIn}
+use Rattle.record.proofs.PlaceLaws.{here-shows}
 use Rattle.command.specs.declared.Command.{Command}
 use Rattle.command.specs.declared.Command.the-variants.{Open, Close, ReadPower, SetPower, ReadStep, SetStep, ReadMode, SetMode, ReadName, SetName, ReadOnOff, SetOnOff, SetInput, ReadInput, SwitchOutput, SetInterval, ReadInterval, Unlock, ReadLock, ReadModel, SetModel, StopSending, StartSending, ReadFilter, SetFilter, ReadPair}
 use Rattle.command.specs.declared.Listed.{Listed}
@@ -68,9 +71,10 @@ asked c n h = le-trans (asked-least c) (counted-span c n h .0)
 
 -- ---- access
 
-module _ (s : List ℕ) (r : Record) (e : s ≡ bytesOf r) where
+-- the flags in any layout that has them at their place
+module _ (s : List ℕ) (p : Plan) (laid : Laid p) (at-is : place p FlagByte ≡ atFlags) (r : Record) (e : s ≡ bytesIn p r) where
   flags-at : getD s atFlags 0 ≡ flagsByte (r .flags)
-  flags-at = ap (λ (l : List ℕ). getD l atFlags 0) e ∙ get-flags r
+  flags-at = ap₂ (λ (l : List ℕ) (k : ℕ). getD l k 0) e (sym at-is) ∙ get-flagsIn p laid r
 
   opened-bit : bitOf (getD s atFlags 0) 1 ≡ r .flags .opened
   opened-bit = rw flags-at (bits-back (r .flags .opened) (r .flags .unlocked) (r .flags .sending) (r .flags .reading) .0)
@@ -78,17 +82,24 @@ module _ (s : List ℕ) (r : Record) (e : s ≡ bytesOf r) where
   unlocked-bit : bitOf (getD s atFlags 0) 2 ≡ r .flags .unlocked
   unlocked-bit = rw flags-at (bits-back (r .flags .opened) (r .flags .unlocked) (r .flags .sending) (r .flags .reading) .1)
 
-  tries-at : getD s atTries 0 ≡ r .tries
-  tries-at = ap (λ (l : List ℕ). getD l atTries 0) e ∙ get-tries r
+pub opened-is : (s : List ℕ) → ShowsAt FlagByte atFlags s (eqb (getD s atFlags 0 % 2) 1) (λ r. r .flags .opened)
+opened-is s p laid has at-is r i e = let z : getD s atFlags 0 % 2 ≡ getD s atFlags 0 / 1 % 2 = omega arith in rw z (opened-bit s p laid at-is r e)
 
-pub opened-is : (s : List ℕ) → Shows s (eqb (getD s atFlags 0 % 2) 1) (λ r. r .flags .opened)
-opened-is s r i e = let z : getD s atFlags 0 % 2 ≡ getD s atFlags 0 / 1 % 2 = omega arith in rw z (opened-bit s r e)
+pub unlocked-is : (s : List ℕ) → ShowsAt FlagByte atFlags s (eqb (getD s atFlags 0 / 2 % 2) 1) (λ r. r .flags .unlocked)
+unlocked-is s p laid has at-is r i e = unlocked-bit s p laid at-is r e
 
-pub unlocked-is : (s : List ℕ) → Shows s (eqb (getD s atFlags 0 / 2 % 2) 1) (λ r. r .flags .unlocked)
-unlocked-is s r i e = unlocked-bit s r e
+-- and in the current one
+pub flag-here : (s : List ℕ) (v : Bool) (f : Record → Bool) → ShowsAt FlagByte atFlags s v f → Shows s v f
+flag-here s v f = here-shows FlagByte atFlags s v f refl refl
+
+tries-at : (s : List ℕ) (r : Record) → s ≡ bytesOf r → getD s atTries 0 ≡ r .tries
+tries-at s r e = ap (λ (l : List ℕ). getD l atTries 0) e ∙ get-tries r
 
 -- the code is compared with configuration mode closed and a try left
-module _ (s p : List ℕ) (o : Bool) (shown : Shows s o (λ r. r .flags .opened)) where
+module _ (s p : List ℕ) (o : Bool) (shows : ShowsAt FlagByte atFlags s o (λ r. r .flags .opened)) where
+  shown : Shows s o (λ r. r .flags .opened)
+  shown = flag-here s o (λ r. r .flags .opened) shows
+
   pub code-open : o ≡ true → Shows s Missing (λ r. accessOf Code r p)
   unfolding accessOf
   code-open t r i e = rw (sym (shown r i e) ∙ t) refl

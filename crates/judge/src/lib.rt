@@ -1,8 +1,9 @@
 // The checks of a frame, in the order of the refusals: each answers an enum, and the first that does not pass decides.
 ghost use mathlib.Core.Path.{_≡_};
-ghost use Prim.Native.Nat.{_≤_};
+ghost use Prim.Native.Nat.{_+_, _≤_, _<_};
 ghost use lib.ListN.{length};
-ghost use Rattle.record.specs.Place.{Shows};
+ghost use Rattle.record.specs.Layout.{FlagByte, recordSize, atFlags, atCode};
+ghost use Rattle.record.specs.Place.{Shows, ShowsAt};
 ghost use Rattle.command.specs.declared.Need.the-variants.{Code};
 ghost use Rattle.command.specs.Judge.{accessOf, verdictOf};
 ghost use Rattle.judge.specs.Checks.{asks, numberRefusal, accessRefusal, rangeRefusal};
@@ -13,6 +14,9 @@ use command::Need;
 use command::Refusal;
 use command::Verdict;
 use range::check_range;
+use record::places::AT_CODE;
+use record::places::AT_FLAGS;
+use record::places::AT_TRIES;
 use table::check_count;
 use table::check_number;
 use table::need_of;
@@ -20,31 +24,31 @@ use wire::Range;
 use wire::numbers::word_at;
 
 fn is_open(rec: &[u8]) -> bool
-    requires { ⌜ length (now rec) ≡ 123 ⌝ }
-    ensures { λ r. ⌜ Shows (now (rec .entry)) r (λ b. b .flags .opened) ⌝ }
+    requires { ⌜ atFlags < length (now rec) ⌝ }
+    ensures { λ r. ⌜ ShowsAt FlagByte atFlags (now (rec .entry)) r (λ b. b .flags .opened) ⌝ }
 {
-    rec[3] % 2 == 1
+    rec[AT_FLAGS] % 2 == 1
 }
 
 fn is_unlocked(rec: &[u8]) -> bool
-    requires { ⌜ length (now rec) ≡ 123 ⌝ }
-    ensures { λ r. ⌜ Shows (now (rec .entry)) r (λ b. b .flags .unlocked) ⌝ }
+    requires { ⌜ atFlags < length (now rec) ⌝ }
+    ensures { λ r. ⌜ ShowsAt FlagByte atFlags (now (rec .entry)) r (λ b. b .flags .unlocked) ⌝ }
 {
-    rec[3] / 2 % 2 == 1
+    rec[AT_FLAGS] / 2 % 2 == 1
 }
 
 // The code is compared only with configuration mode closed and a try left.
 fn code_access(rec: &[u8], p: &[u8]) -> Access
-    requires { ⌜ (length (now rec) ≡ 123) × (4 ≤ length (now p)) ⌝ }
+    requires { ⌜ (atCode + 4 ≤ length (now rec)) × (4 ≤ length (now p)) ⌝ }
     ensures { λ r. ⌜ Shows (now (rec .entry)) r (λ b. accessOf Code b (now (p .entry))) ⌝ }
 {
     if is_open(rec) {
         return Access::Missing;
     }
-    if 3 <= rec[4] {
+    if 3 <= rec[AT_TRIES] {
         return Access::Missing;
     }
-    if word_at(p, 0) == word_at(rec, 5) {
+    if word_at(p, 0) == word_at(rec, AT_CODE) {
         return Access::Given;
     }
     Access::WrongCode
@@ -52,7 +56,7 @@ fn code_access(rec: &[u8], p: &[u8]) -> Access
 
 // 62: what the command needs of the board.
 fn check_access(need: Need, rec: &[u8], p: &[u8]) -> Access
-    requires { ⌜ (length (now rec) ≡ 123) × (asks need ≤ length (now p)) ⌝ }
+    requires { ⌜ (atCode + 4 ≤ length (now rec)) × (asks need ≤ length (now p)) ⌝ }
     ensures { λ r. ⌜ Shows (now (rec .entry)) r (λ b. accessOf need b (now (p .entry))) ⌝ }
 {
     match need {
@@ -112,7 +116,7 @@ fn range_refusal(range: Range) -> Refusal
 }
 
 pub fn judge(rec: &[u8], head: u8, number: u8, p: &[u8]) -> Verdict
-    requires { ⌜ length (now rec) ≡ 123 ⌝ }
+    requires { ⌜ length (now rec) ≡ recordSize ⌝ }
     ensures { λ r. ⌜ Shows (now (rec .entry)) r (λ b. verdictOf b head number (now (p .entry))) ⌝ }
 {
     let listed = check_number(head, number);

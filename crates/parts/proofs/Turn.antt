@@ -10,23 +10,24 @@ use Rattle.wire.proofs.NumberLaws.{length-part}
 use Rattle.wire.proofs.PutLaws.{put-put, put-sets}
 use Rattle.record.specs.Record.{withName, withSettings, withModel, withPending}
 use Rattle.record.specs.Limits.{beforeZero}
-use Rattle.record.specs.Layout.{ModelPart, atName}
-use Rattle.record.specs.Place.{Turns, TurnsAt, TurnsPending}
+use Rattle.record.specs.Layout.{NamePart, ModelPart, nameRoom, modelRoom, atName}
+use Rattle.record.specs.Place.{TurnsAt, TurnsPending}
 use Rattle.record.proofs.Parts.{padded, cut-take}
-use Rattle.record.proofs.Lens.{set-name}
-use Rattle.record.proofs.Stores.{set-modelIn, set-pendingIn}
+use Rattle.record.proofs.Stores.{set-nameIn, set-modelIn, set-pendingIn}
+use Rattle.record.proofs.PlaceLaws.{turns-at}
 
 module _ (s : List ℕ) where
   module _ (p : List ℕ) where
-    pub turn-name : Turns s (sets (set s atName (length p)) (atName + 1) (bytesAt 15 p 0)) (λ r. withSettings r (withName (r .settings) p))
-    turn-name r i e = rw e (set-name r p)
+    pub turn-name : TurnsAt NamePart atName s (sets (set s atName (length p)) (atName + 1) (bytesAt nameRoom p 0)) (λ r. withSettings r (withName (r .settings) p))
+    turn-name =
+        turns-at NamePart atName s (λ at d. sets (set d at (length p)) (at + 1) (bytesAt nameRoom p 0)) (λ r. withSettings r (withName (r .settings) p)) (λ q laid r i e. set-nameIn q laid r e p)
 
     pub turn-pending : (at room n : ℕ) → n ≡ room → TurnsPending at room s (sets (set s at (length p)) (at + 1) (bytesAt n p 0)) (λ r. withPending r p)
     turn-pending at room n same q laid at-is room-is r i e =
         rw (e, same, ← room-is, ← at-is) (set-pendingIn q laid r p)
 
     -- n as the search for the first zero finds it
-    pub turn-model : (at m n : ℕ) → m ≡ 15 → n ≡ 0 + length (beforeZero (take (length p - 0) (drop 0 p))) → TurnsAt ModelPart at s (sets s at (bytesAt m (take (n - 0) p) 0)) (λ r. withModel r (beforeZero p))
+    pub turn-model : (at m n : ℕ) → m ≡ modelRoom → n ≡ 0 + length (beforeZero (take (length p - 0) (drop 0 p))) → TurnsAt ModelPart at s (sets s at (bytesAt m (take (n - 0) p) 0)) (λ r. withModel r (beforeZero p))
     turn-model at m n same q plan laid has at-is r i e =
         let all : take (length p - 0) (drop 0 p) ≡ p = take-all (length p - 0) p (omega arith) in
         let cut : n - 0 ≡ length (beforeZero p) = omega (arith, q, ap (λ (l : List ℕ). length (beforeZero l)) all) in

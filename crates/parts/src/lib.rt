@@ -1,4 +1,4 @@
-// Name, model and pending bytes of a record stored in its bytes, with zeros behind them.
+// Name, model and pending bytes of a record stored in its bytes, with zeros behind them, in every layout that has them at these places.
 pub mod fresh;
 
 ghost use mathlib.Core.Path.{_≡_};
@@ -8,9 +8,13 @@ ghost use lib.Seq.{sets};
 ghost use Rattle.wire.specs.Numbers.{bytesAt};
 ghost use Rattle.record.specs.Record.{withName, withSettings, withModel, withPending};
 ghost use Rattle.record.specs.Limits.{beforeZero};
-ghost use Rattle.record.specs.Place.{Turns, TurnsAt, TurnsPending};
-ghost use Rattle.record.specs.Layout.{ModelPart};
+ghost use Rattle.record.specs.Layout.{NamePart, ModelPart, nameRoom, modelRoom, atName, atNameBytes};
+ghost use Rattle.record.specs.Place.{TurnsAt, TurnsPending};
 use form::first_zero;
+use record::places::AT_MODEL;
+use record::places::AT_NAME;
+use record::places::AT_NAME_BYTES;
+use record::places::MODEL_ROOM;
 use wire::buffer::clear;
 use wire::buffer::put_in;
 
@@ -24,27 +28,27 @@ fn put_part(rec: &mut [u8], at: usize, end: usize, p: &[u8])
 }
 
 pub fn set_name(rec: &mut [u8], p: &[u8])
-    requires { ⌜ length (now rec) ≡ 123 ⌝ }
-    requires { ⌜ length (now p) ≤ 15 ⌝ }
-    ensures { λ _. ⌜ Turns (now (rec .entry)) (now (rec .exit)) (λ r. withSettings r (withName (r .settings) (now (p .entry)))) ⌝ }
+    requires { ⌜ atNameBytes + nameRoom ≤ length (now rec) ⌝ }
+    requires { ⌜ length (now p) ≤ nameRoom ⌝ }
+    ensures { λ _. ⌜ TurnsAt NamePart atName (now (rec .entry)) (now (rec .exit)) (λ r. withSettings r (withName (r .settings) (now (p .entry)))) ⌝ }
 {
-    rec[25] = p.len() as u8;
-    put_part(rec, 26, 41, p);
+    rec[AT_NAME] = p.len() as u8;
+    put_part(rec, AT_NAME_BYTES, AT_MODEL, p);
 }
 
 // At the place that the layout gives the model.
 pub fn set_model(rec: &mut [u8], at: usize, p: &[u8])
-    requires { ⌜ (at + 15 ≤ length (now rec)) × (at ≤ 255) ⌝ }
-    requires { ⌜ length (now p) ≤ 15 ⌝ }
+    requires { ⌜ at + modelRoom ≤ length (now rec) ⌝ }
+    requires { ⌜ length (now p) ≤ modelRoom ⌝ }
     ensures { λ _. ⌜ TurnsAt ModelPart at (now (rec .entry)) (now (rec .exit)) (λ r. withModel r (beforeZero (now (p .entry)))) ⌝ }
 {
     let n = first_zero(p, 0, p.len());
-    put_part(rec, at, at + 15, &p[0..n]);
+    put_part(rec, at, at + MODEL_ROOM, &p[0..n]);
 }
 
 // At the place and in the room that the layout gives them.
 pub fn set_pending(rec: &mut [u8], at: usize, room: usize, p: &[u8])
-    requires { ⌜ (at + 1 + room ≤ length (now rec)) × (at ≤ 255) × (room ≤ 255) ⌝ }
+    requires { ⌜ (at + 1 + room ≤ length (now rec)) × (room ≤ 255) ⌝ }
     requires { ⌜ length (now p) ≤ room ⌝ }
     ensures { λ _. ⌜ TurnsPending at room (now (rec .entry)) (now (rec .exit)) (λ r. withPending r (now (p .entry))) ⌝ }
 {

@@ -9,6 +9,8 @@ ghost use Rattle.command.specs.declared.Counted.the-variants.{Right};
 ghost use Rattle.command.specs.Tables.{countedOf, rangeOf};
 use command::Command;
 use form::name_bytes;
+use record::places::CHANNELS;
+use record::places::FILTERS;
 use wire::Range;
 use wire::numbers::half_at;
 use wire::numbers::word_at;
@@ -68,10 +70,10 @@ fn interval_range(b: u8) -> Range
     Range::Fits
 }
 
-fn filter_range(w: u32) -> Range
-    ensures { λ r. ⌜ r ≡ filterRange 64 w ⌝ }
+fn filter_range(bound: u32, w: u32) -> Range
+    ensures { λ r. ⌜ r ≡ filterRange bound w ⌝ }
 {
-    if w < 64 {
+    if w < bound {
         return Range::Fits;
     }
     Range::Big
@@ -127,7 +129,7 @@ pub fn check_range(c: Command, p: &[u8]) -> Range
         Command::StopSending => Range::Fits,
         Command::StartSending => Range::Fits,
         Command::ReadFilter => Range::Fits,
-        Command::SetFilter => filter_range(word_at(p, 0)),
-        Command::ReadPair => unsigned_range(1, 6, p[0]),
+        Command::SetFilter => filter_range(FILTERS, word_at(p, 0)),
+        Command::ReadPair => unsigned_range(1, CHANNELS, p[0]),
     }
 }

@@ -1,5 +1,5 @@
 -- What a reading leaves in the bytes, by way of floats, is what the definitions say over patterns.
-use Prim.Native.Nat.{ℕ, zero, suc, _+_, _*_, _%_, _≤_, _<_}
+use Prim.Native.Nat.{ℕ, zero, suc, _+_, _*_, _≤_, _<_}
 use mathlib.Core.Path.{_≡_, refl, sym, ap, ap₂, _∙_}
 use mathlib.Core.Bool.{Bool, true, false, _&&_, and-assoc, and-true}
 use mathlib.Core.List.{List, [], _∷_, _++_, map}
@@ -8,6 +8,7 @@ use native.Mathlib.Omega.{arith}
 use lib.ListN.{length, getD, set, length-map}
 use lib.Seq.{sets}
 use lib.Dec.{eqb}
+use lib.Bits.{bitOr}
 use borrow.Author.Tests.{eqb-true}
 use Rattle.wire.specs.Numbers.{Bytes, wordAt, bytes4}
 use Rattle.peak.specs.Pairs.{Pair, noPair, finite, seen, seenAll, allFinite, pairFits, pairsAt, pairBytes, pairsBytes}
@@ -20,7 +21,7 @@ use Rattle.record.specs.Layout.{recordSize, channels, atFlags, atPairs, nibble,
 use Rattle.record.specs.Form.{InRange}
 use Rattle.record.specs.Place.{Sound}
 use Rattle.record.specs.Reading.{readingOf}
-use Rattle.record.proofs.Choices.{sixteen-each}
+use Rattle.record.proofs.Choices.{switch}
 use Rattle.record.proofs.Parts.{Words, word-lt, pairs-shift, elements, elements-all}
 use Rattle.record.proofs.Lens.{long, get-flags, set-flags}
 use Rattle.record.proofs.Reading.{reading-in}
@@ -117,14 +118,14 @@ pub pair-there : (s : List ℕ) → Sound s → (k : ℕ) → k < channels → (
 unfolding recordOf
 pair-there s h k l = (omega (arith, sound-long s h), fit-finite (recordOf s .flags .reading) (getD (pairsAt channels s atPairs) k noPair) (h .fit .pairs k l))
 
-reading-bit : (a b c d : Bool) → nibble a b c d % 8 + 8 ≡ nibble a b c true
-reading-bit a b c d = eqb-true (nibble a b c d % 8 + 8) (nibble a b c true) (sixteen-each (λ a b c d. eqb (nibble a b c d % 8 + 8) (nibble a b c true)) refl a b c d)
+reading-bit : (a b c d : Bool) → bitOr (nibble a b c d) 8 ≡ nibble a b c true
+reading-bit a b c d = switch 4 (omega arith) (omega arith) true a b c d
 
 set-pairs : (r : Record) (v : List Pair) → sets (bytesOf r) atPairs (pairsBytes channels v 0) ≡ bytesOf (withPairs r v)
 unfolding bytesOf withPairs
 set-pairs r v = refl
 
-set-reading : (r : Record) → set (bytesOf r) atFlags (getD (bytesOf r) atFlags 0 % 8 + 8) ≡ bytesOf (withFlags r (withReading (r .flags) true))
+set-reading : (r : Record) → set (bytesOf r) atFlags (bitOr (getD (bytesOf r) atFlags 0) 8) ≡ bytesOf (withFlags r (withReading (r .flags) true))
 set-reading r =
     rw (get-flags r, reading-bit (r .flags .opened) (r .flags .unlocked) (r .flags .sending) (r .flags .reading)) (set-flags r (withReading (r .flags) true))
 
@@ -154,7 +155,7 @@ module _ (r : Record) (sample : List ℕ) (i : InRange r) (b : Bytes sample) (f 
   unfolding readingOf withFlags withPairs
   part-taken =
       let bytes : peaksBytes (map peakOf next) ≡ pairsBytes channels next 0 = peaks-back next (after .words) next-fits ∙ ap (λ (n : ℕ). pairsBytes n next 0) (after .six) in
-      ap (sets (set (bytesOf r) atFlags (getD (bytesOf r) atFlags 0 % 8 + 8)) atPairs) (ap peaksBytes peaks ∙ bytes)
+      ap (sets (set (bytesOf r) atFlags (bitOr (getD (bytesOf r) atFlags 0) 8)) atPairs) (ap peaksBytes peaks ∙ bytes)
       ∙ ap (λ (l : List ℕ). sets l atPairs (pairsBytes channels next 0)) (set-reading r)
       ∙ set-pairs (withFlags r (withReading (r .flags) true)) next
 

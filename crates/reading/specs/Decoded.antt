@@ -1,10 +1,11 @@
 -- The part of a record that a reading goes by, as code holds it: two flags and pairs of floats. No promise of a call speaks of it.
-use Prim.Native.Nat.{ℕ, _+_, _%_, _<_}
+use Prim.Native.Nat.{ℕ, _+_, _<_}
 use mathlib.Core.Bool.{Bool, true, false, not, cond}
 use mathlib.Core.List.{List, [], _∷_, _++_, map}
 use lib.ListN.{getD, set}
 use lib.Seq.{sets}
 use lib.Dec.{T}
+use lib.Bits.{bitOr}
 use lib.Ieee.{Float, nan, isNan}
 use Rattle.wire.specs.Numbers.{wordAt, bytes4}
 use Rattle.peak.specs.Pairs.{pairsAt}
@@ -49,4 +50,4 @@ peaksBytes (p ∷ peaks) = peakBytes p ++ peaksBytes peaks
 
 -- the bytes of a record with the reading flag and the pairs put back
 abbrev pub putBack : Decoded → List ℕ → List ℕ
-putBack d s = sets (set s atFlags (getD s atFlags 0 % 8 + cond (d .reading) 8 0)) atPairs (peaksBytes (d .peaks))
+putBack d s = sets (set s atFlags (bitOr (getD s atFlags 0) (cond (d .reading) 8 0))) atPairs (peaksBytes (d .peaks))

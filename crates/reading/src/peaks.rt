@@ -2,13 +2,13 @@
 ghost use mathlib.Core.Path.{_≡_};
 ghost use mathlib.Core.Bool.{true, cond};
 ghost use mathlib.Core.List.{_++_};
-ghost use Prim.Native.Nat.{_+_, _≤_};
+ghost use Prim.Native.Nat.{_+_, _*_, _≤_};
 ghost use lib.ListN.{length};
 ghost use lib.Seq.{sets};
 ghost use Rattle.wire.specs.Numbers.{wordAt, bytes4};
 ghost use Rattle.peak.specs.Pairs.{finite, allFinite, pairAt};
 ghost use Rattle.peak.specs.Floats.{floatOf, peakOf};
-ghost use Rattle.record.specs.Layout.{bytesOf, recordOf};
+ghost use Rattle.record.specs.Layout.{recordSize, channels, bytesOf, recordOf};
 ghost use Rattle.record.specs.Place.{Sound};
 ghost use Rattle.record.specs.Reading.{readingOf};
 ghost use Rattle.reading.specs.Decoded.{decodedOf, Numbers, AllNumbers, seenPeak, afterReading, peakBytes, putBack};
@@ -19,6 +19,14 @@ use peak::finite_float;
 use peak::float_of;
 use peak::is_finite;
 use peak::seen_next;
+use record::places::AT_FLAGS;
+use record::places::AT_PAIR_2;
+use record::places::AT_PAIR_3;
+use record::places::AT_PAIR_4;
+use record::places::AT_PAIR_5;
+use record::places::AT_PAIR_6;
+use record::places::AT_PAIRS;
+use record::places::READING;
 use wire::numbers::word_at;
 
 fn finite_at(sample: &[u8], at: usize) -> bool
@@ -30,8 +38,8 @@ fn finite_at(sample: &[u8], at: usize) -> bool
 
 // Whether no channel is infinite or no number.
 pub fn finite_sample(sample: &[u8]) -> bool
-    requires { ⌜ length (now sample) ≡ 24 ⌝ }
-    ensures { λ r. ⌜ r ≡ allFinite 6 (now (sample .entry)) 0 ⌝ }
+    requires { ⌜ length (now sample) ≡ 4 * channels ⌝ }
+    ensures { λ r. ⌜ r ≡ allFinite channels (now (sample .entry)) 0 ⌝ }
 {
     finite_at(sample, 0)
         & finite_at(sample, 4)
@@ -55,15 +63,15 @@ fn decode(rec: &[u8]) -> Decoded
     requires { ⌜ Sound (now rec) ⌝ }
     ensures { λ r. ⌜ r ≡ decodedOf (now (rec .entry)) ⌝ }
 {
-    let a = peak_at(rec, 75);
-    let b = peak_at(rec, 83);
-    let c = peak_at(rec, 91);
-    let d = peak_at(rec, 99);
-    let e = peak_at(rec, 107);
-    let f = peak_at(rec, 115);
+    let a = peak_at(rec, AT_PAIRS);
+    let b = peak_at(rec, AT_PAIR_2);
+    let c = peak_at(rec, AT_PAIR_3);
+    let d = peak_at(rec, AT_PAIR_4);
+    let e = peak_at(rec, AT_PAIR_5);
+    let f = peak_at(rec, AT_PAIR_6);
     Decoded {
-        reading: rec[3] / 8 % 2 == 1,
-        sending: rec[3] / 4 % 2 == 1,
+        reading: rec[AT_FLAGS] / 8 % 2 == 1,
+        sending: rec[AT_FLAGS] / 4 % 2 == 1,
         peaks: [a, b, c, d, e, f],
     }
 }
@@ -84,7 +92,7 @@ fn seen_at(reading: bool, p: Peak, sample: &[u8], at: usize) -> Peak
 }
 
 fn after_reading(was: Decoded, sample: &[u8]) -> Decoded
-    requires { ⌜ length (now sample) ≡ 24 ⌝ }
+    requires { ⌜ length (now sample) ≡ 4 * channels ⌝ }
     ensures { λ r. ⌜ r ≡ afterReading was (now (sample .entry)) ⌝ }
 {
     let reading = was.reading;
@@ -135,25 +143,25 @@ fn put_three(rec: &mut [u8], at: usize, a: Peak, b: Peak, c: Peak)
 fn flag_of(reading: bool) -> u8
     ensures { λ r. ⌜ (r ≡ cond reading 8 0) × (r ≤ 8) ⌝ }
 {
-    if reading { 8 } else { 0 }
+    if reading { READING } else { 0 }
 }
 
 fn put_back(rec: &mut [u8], d: Decoded)
-    requires { ⌜ length (now rec) ≡ 123 ⌝ }
+    requires { ⌜ length (now rec) ≡ recordSize ⌝ }
     requires { ⌜ AllNumbers (d .peaks) ⌝ }
     ensures { λ _. ⌜ now (rec .exit) ≡ putBack d (now (rec .entry)) ⌝ }
 {
     let p = d.peaks;
-    rec[3] = rec[3] % 8 + flag_of(d.reading);
-    put_three(rec, 75, p[0], p[1], p[2]);
-    put_three(rec, 99, p[3], p[4], p[5]);
+    rec[AT_FLAGS] |= flag_of(d.reading);
+    put_three(rec, AT_PAIRS, p[0], p[1], p[2]);
+    put_three(rec, AT_PAIR_4, p[3], p[4], p[5]);
 }
 
 // Takes a reading of finite values, and returns whether measuring frames are sent.
 pub fn take_reading(rec: &mut [u8], sample: &[u8]) -> bool
     requires { ⌜ Sound (now rec) ⌝ }
-    requires { ⌜ length (now sample) ≡ 24 ⌝ }
-    requires { ⌜ allFinite 6 (now sample) 0 ≡ true ⌝ }
+    requires { ⌜ length (now sample) ≡ 4 * channels ⌝ }
+    requires { ⌜ allFinite channels (now sample) 0 ≡ true ⌝ }
     ensures { λ sending. ⌜ (sending ≡ recordOf (now (rec .entry)) .flags .sending) × (now (rec .exit) ≡ bytesOf (readingOf (recordOf (now (rec .entry))) (now (sample .entry)))) ⌝ }
 {
     let was = decode(rec);

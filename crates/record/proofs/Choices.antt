@@ -62,9 +62,9 @@ bits-back a b c d =
 pub even-is : (n : ℕ) → n < 16 → eqb (n % 2) 0 ≡ not (bitOf n 1)
 even-is n h = beq-true (eqb (n % 2) 0) (not (bitOf n 1)) (below-each 16 (λ n. Bool·beq (eqb (n % 2) 0) (not (bitOf n 1))) refl n h)
 
--- v stored in bit k - 1 of a byte: the masks 1, 2, 4, 8 set it, 14, 13, 11, 7 clear it
+-- v stored in bit k - 1 of a byte, which keeps its other bits, those above the four too
 abbrev pub masked : ℕ → Bool → ℕ → ℕ
-masked k v n = cond v (bitOr n (2 ^ (k - 1))) (bitAnd n (15 - 2 ^ (k - 1)))
+masked k v n = cond v (bitOr n (2 ^ (k - 1))) (bitAnd n (255 - 2 ^ (k - 1)))
 
 -- the same, bit by bit
 abbrev pub switched : ℕ → Bool → Bool → Bool → Bool → Bool → ℕ

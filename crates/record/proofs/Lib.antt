@@ -13,4 +13,4 @@ pub mod PlaceLaws
 pub mod Whole
 pub mod Faults
 pub mod Convert
-pub mod Places
+pub mod Tables

@@ -12,11 +12,11 @@ use lib.Dec.{eqb}
 use Rattle.wire.specs.Numbers.{bytes2, bytes4, bytesAt}
 use Rattle.wire.proofs.NumberLaws.{length-part, part-all}
 use Rattle.peak.specs.Pairs.{Pair, noPair, pairBytes, pairsBytes}
-use Rattle.record.specs.Record.{Flags, Outputs, Record, withPower, withStep, withMode, withOnOff, withInputs, withInterval, withFilter, withName, withFlags, withTries, withCode, withSettings, withOutputs, withModel, withPending, withPairs, withCounter}
-use Rattle.record.specs.Layout.{Part, SizeBytes, VersionByte, FlagByte, TriesByte, CodeWord, PowerHalf, StepByte, ModeByte, OnOffByte, InputBytes, OutputByte, IntervalByte, FilterWord, NamePart, ModelPart, PendingPart, PairsPart, CounterHalf, allParts, has, Plan, width, place, lay, flagsByte, outputsByte, chunk, bytesIn}
+use Rattle.record.specs.Record.{Flags, Record, withOutput, withPower, withStep, withMode, withOnOff, withInputs, withInterval, withFilter, withName, withFlags, withTries, withCode, withSettings, withOutputs, withModel, withPending, withPairs, withCounter}
+use Rattle.record.specs.Layout.{Part, SizeBytes, VersionByte, FlagByte, TriesByte, CodeWord, PowerHalf, StepByte, ModeByte, OnOffByte, InputBytes, OutputByte, IntervalByte, FilterWord, NamePart, ModelPart, PendingPart, PairsPart, CounterHalf, allParts, has, Plan, nameRoom, width, place, lay, flagsByte, outputsByte, chunk, bytesIn}
 use Rattle.record.proofs.Choices.{masked, switch}
 use Rattle.record.proofs.Parts.{part-at, sets-cons, pairs-part, pairs-set}
-use Rattle.record.specs.Laid.{each, Laid, coreParts, radioParts}
+use Rattle.record.specs.Laid.{each, Laid, coreParts}
 use Rattle.record.proofs.Layouts.{all-same, upd, lay-same, lay-store}
 use Rattle.record.proofs.Pieces.{chunk-long}
 use Rattle.record.proofs.RoundTrip.{get-part}
@@ -120,44 +120,48 @@ module _ (p : Plan) (l : Laid p) where
 
     -- ---- the radio's parts, where they are
 
-    module _ (radio : has (p .parts) PowerHalf ≡ true) where
-      radio-has : (k : ℕ) → getD (each (has (p .parts)) radioParts) k true ≡ getD (each (λ q. has (p .parts) PowerHalf) radioParts) k true
-      radio-has k = ap (λ (b : List Bool). getD b k true) (l .radio)
+    pub set-powerIn : has (p .parts) PowerHalf ≡ true → (v : ℕ) → sets (bytesIn p r) (place p PowerHalf) (bytes2 v) ≡ bytesIn p (withSettings r (withPower (r .settings) v))
+    unfolding withSettings
+    set-powerIn e v = store-all r (withSettings r (withPower (r .settings) v)) PowerHalf e (bytes2 v) (omega arith) refl
 
-      pub set-powerIn : (v : ℕ) → sets (bytesIn p r) (place p PowerHalf) (bytes2 v) ≡ bytesIn p (withSettings r (withPower (r .settings) v))
-      unfolding withSettings
-      set-powerIn v = store-all r (withSettings r (withPower (r .settings) v)) PowerHalf radio (bytes2 v) (omega arith) refl
+    pub set-stepIn : has (p .parts) StepByte ≡ true → (v : ℕ) → set (bytesIn p r) (place p StepByte) v ≡ bytesIn p (withSettings r (withStep (r .settings) v))
+    unfolding withSettings
+    set-stepIn e v = store-all r (withSettings r (withStep (r .settings) v)) StepByte e (v ∷ []) (omega arith) refl
 
-      pub set-stepIn : (v : ℕ) → set (bytesIn p r) (place p StepByte) v ≡ bytesIn p (withSettings r (withStep (r .settings) v))
-      unfolding withSettings
-      set-stepIn v = store-all r (withSettings r (withStep (r .settings) v)) StepByte (radio-has 0 ∙ radio) (v ∷ []) (omega arith) refl
+    pub set-modeIn : has (p .parts) ModeByte ≡ true → (v : ℕ) → set (bytesIn p r) (place p ModeByte) v ≡ bytesIn p (withSettings r (withMode (r .settings) v))
+    unfolding withSettings
+    set-modeIn e v = store-all r (withSettings r (withMode (r .settings) v)) ModeByte e (v ∷ []) (omega arith) refl
 
-      pub set-modeIn : (v : ℕ) → set (bytesIn p r) (place p ModeByte) v ≡ bytesIn p (withSettings r (withMode (r .settings) v))
-      unfolding withSettings
-      set-modeIn v = store-all r (withSettings r (withMode (r .settings) v)) ModeByte (radio-has 1 ∙ radio) (v ∷ []) (omega arith) refl
+    pub set-on-offIn : has (p .parts) OnOffByte ≡ true → (v : ℕ) → set (bytesIn p r) (place p OnOffByte) v ≡ bytesIn p (withSettings r (withOnOff (r .settings) v))
+    unfolding withSettings
+    set-on-offIn e v = store-all r (withSettings r (withOnOff (r .settings) v)) OnOffByte e (v ∷ []) (omega arith) refl
 
-      pub set-on-offIn : (v : ℕ) → set (bytesIn p r) (place p OnOffByte) v ≡ bytesIn p (withSettings r (withOnOff (r .settings) v))
-      unfolding withSettings
-      set-on-offIn v = store-all r (withSettings r (withOnOff (r .settings) v)) OnOffByte (radio-has 2 ∙ radio) (v ∷ []) (omega arith) refl
+    pub set-intervalIn : has (p .parts) IntervalByte ≡ true → (v : ℕ) → set (bytesIn p r) (place p IntervalByte) v ≡ bytesIn p (withSettings r (withInterval (r .settings) v))
+    unfolding withSettings
+    set-intervalIn e v = store-all r (withSettings r (withInterval (r .settings) v)) IntervalByte e (v ∷ []) (omega arith) refl
 
-      pub set-intervalIn : (v : ℕ) → set (bytesIn p r) (place p IntervalByte) v ≡ bytesIn p (withSettings r (withInterval (r .settings) v))
-      unfolding withSettings
-      set-intervalIn v = store-all r (withSettings r (withInterval (r .settings) v)) IntervalByte (radio-has 5 ∙ radio) (v ∷ []) (omega arith) refl
+    pub set-inputIn : has (p .parts) InputBytes ≡ true → (k v : ℕ) → k < 5 → length (r .settings .inputs) ≡ 5 → set (bytesIn p r) (place p InputBytes + k) v ≡ bytesIn p (withSettings r (withInputs (r .settings) (set (r .settings .inputs) k v)))
+    unfolding withSettings
+    set-inputIn there k v h five =
+        let g = r .settings .inputs in
+        let e : set (bytesAt 5 g 0) k v ≡ bytesAt 5 (set g k v) 0 = ap (λ (s : List ℕ). set s k v) (part-all 5 g five) ∙ sym (part-all 5 (set g k v) (length-set g k v ∙ five)) in
+        store r (withSettings r (withInputs (r .settings) (set g k v))) InputBytes there k (v ∷ []) (omega arith) (ap (λ (x : List ℕ). each (upd InputBytes x (chunk p r)) allParts) e)
 
-      pub set-outputsIn : (v : Outputs) → set (bytesIn p r) (place p OutputByte) (outputsByte v) ≡ bytesIn p (withOutputs r v)
-      unfolding withOutputs
-      set-outputsIn v = store-all r (withOutputs r v) OutputByte (radio-has 4 ∙ radio) (outputsByte v ∷ []) (omega arith) refl
+    -- output k, 1 to 4, by its mask
+    pub set-outputIn : has (p .parts) OutputByte ≡ true → (k : ℕ) (v : Bool) → 1 ≤ k → k ≤ 4
+        → set (bytesIn p r) (place p OutputByte) (masked k v (getD (bytesIn p r) (place p OutputByte) 0)) ≡ bytesIn p (withOutputs r (withOutput (r .outputs) k v))
+    unfolding withOutputs
+    set-outputIn e k v a b =
+        let o = withOutput (r .outputs) k v in
+        ap (λ (x : ℕ). set (bytesIn p r) (place p OutputByte) (masked k v x)) (ap (λ (s : List ℕ). getD s 0 0) (get-part p l r OutputByte e))
+        ∙ ap (set (bytesIn p r) (place p OutputByte)) (switch k a b v (r .outputs .first) (r .outputs .second) (r .outputs .third) (r .outputs .fourth))
+        ∙ store-all r (withOutputs r o) OutputByte e (outputsByte o ∷ []) (omega arith) refl
 
-      pub set-inputIn : (k v : ℕ) → k < 5 → length (r .settings .inputs) ≡ 5 → set (bytesIn p r) (place p InputBytes + k) v ≡ bytesIn p (withSettings r (withInputs (r .settings) (set (r .settings .inputs) k v)))
-      unfolding withSettings
-      set-inputIn k v h five =
-          let g = r .settings .inputs in
-          let e : set (bytesAt 5 g 0) k v ≡ bytesAt 5 (set g k v) 0 = ap (λ (s : List ℕ). set s k v) (part-all 5 g five) ∙ sym (part-all 5 (set g k v) (length-set g k v ∙ five)) in
-          store r (withSettings r (withInputs (r .settings) (set g k v))) InputBytes (radio-has 3 ∙ radio) k (v ∷ []) (omega arith) (ap (λ (x : List ℕ). each (upd InputBytes x (chunk p r)) allParts) e)
-
-      pub set-nameIn : (v : List ℕ) → sets (bytesIn p r) (place p NamePart) (length v ∷ bytesAt 15 v 0) ≡ bytesIn p (withSettings r (withName (r .settings) v))
-      unfolding withSettings
-      set-nameIn v = store-all r (withSettings r (withName (r .settings) v)) NamePart (radio-has 6 ∙ radio) (length v ∷ bytesAt 15 v 0) (omega arith) refl
+    pub set-nameIn : has (p .parts) NamePart ≡ true → (v : List ℕ) → sets (set (bytesIn p r) (place p NamePart) (length v)) (place p NamePart + 1) (bytesAt nameRoom v 0) ≡ bytesIn p (withSettings r (withName (r .settings) v))
+    unfolding withSettings
+    set-nameIn e v =
+        ap (λ (k : ℕ). sets (set (bytesIn p r) (place p NamePart) (length v)) k (bytesAt nameRoom v 0)) (add-one (place p NamePart))
+        ∙ store-all r (withSettings r (withName (r .settings) v)) NamePart e (length v ∷ bytesAt nameRoom v 0) (omega arith) refl
 
     -- ---- the counter, where it is
 

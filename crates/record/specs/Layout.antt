@@ -6,6 +6,7 @@ use mathlib.Core.List.{List, [], _∷_, _++_}
 use lib.ListN.{length, getD, take}
 use lib.Dec.{eqb, leb}
 use Rattle.wire.specs.Numbers.{halfAt, wordAt, bytes2, bytes4, bytesAt}
+use Rattle.wire.specs.Sizes.{waitMost}
 use Rattle.wire.specs.Frames.{Heads}
 use Rattle.wire.specs.Serial.{Fixed, Bad, fronted, closed, serial}
 use Rattle.peak.specs.Pairs.{pairsAt, pairsBytes}
@@ -80,6 +81,13 @@ pub record Plan : Type 0 where
   pub opens : Bool
   pub parts : List Part
 
+abbrev pub nameRoom : ℕ
+nameRoom = 15
+
+abbrev pub modelRoom : ℕ
+modelRoom = 15
+
+-- how many bytes a part takes
 abbrev pub width : Plan → Part → ℕ
 width p SizeBytes = 2
 width p VersionByte = 1
@@ -94,8 +102,8 @@ width p InputBytes = 5
 width p OutputByte = 1
 width p IntervalByte = 1
 width p FilterWord = 4
-width p NamePart = 16
-width p ModelPart = 15
+width p NamePart = suc nameRoom
+width p ModelPart = modelRoom
 width p PendingPart = suc (p .room)
 width p PairsPart = p .channels * 8
 width p CounterHalf = 2
@@ -133,7 +141,7 @@ boardParts = SizeBytes ∷ VersionByte ∷ FlagByte ∷ TriesByte ∷ CodeWord �
 
 -- the board's record
 abbrev pub plan1 : Plan
-plan1 = record { version = 1; room = 18; heads = serial; channels = 6; filters = 64; opens = true; parts = boardParts }
+plan1 = record { version = 1; room = waitMost; heads = serial; channels = 6; filters = 64; opens = true; parts = boardParts }
 
 -- one waiting byte more; no call takes it yet, nor those that follow
 abbrev pub plan2 : Plan
@@ -163,6 +171,10 @@ version = current .version
 
 abbrev pub channels : ℕ
 channels = current .channels
+
+-- filter words are below it
+abbrev pub filters : ℕ
+filters = current .filters
 
 -- at most so many bytes wait
 abbrev pub pendingRoom : ℕ
@@ -209,11 +221,19 @@ atFilter = place current FilterWord
 abbrev pub atName : ℕ
 atName = place current NamePart
 
+-- behind its length
+abbrev pub atNameBytes : ℕ
+atNameBytes = atName + 1
+
 abbrev pub atModel : ℕ
 atModel = place current ModelPart
 
 abbrev pub atPending : ℕ
 atPending = place current PendingPart
+
+-- behind their length
+abbrev pub atWaiting : ℕ
+atWaiting = atPending + 1
 
 abbrev pub atPairs : ℕ
 atPairs = place current PairsPart

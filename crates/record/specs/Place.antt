@@ -25,13 +25,18 @@ Turns s t f = (r : Record) → InRange r → s ≡ bytesOf r → t ≡ bytesOf (
 abbrev pub Shows : {A : Type 0} → List ℕ → A → (Record → A) → Type 0
 Shows s v f = (r : Record) → InRange r → s ≡ bytesOf r → v ≡ f r
 
--- the same in a layout, and in every layout that has a part at a place: what code shared by boards promises
+-- the same in a layout
 abbrev pub TurnsIn : Plan → List ℕ → List ℕ → (Record → Record) → Type 0
 TurnsIn p s t f = (r : Record) → InRangeIn p r → s ≡ bytesIn p r → t ≡ bytesIn p (f r)
 
+-- and in every layout that has a part at a place: what a function promises that stores one field
 abbrev pub TurnsAt : Part → ℕ → List ℕ → List ℕ → (Record → Record) → Type 0
 TurnsAt q at s t f = (p : Plan) → Laid p → has (p .parts) q ≡ true → place p q ≡ at → TurnsIn p s t f
 
 -- the pending bytes also by their room
 abbrev pub TurnsPending : ℕ → ℕ → List ℕ → List ℕ → (Record → Record) → Type 0
 TurnsPending at room s t f = (p : Plan) → Laid p → place p PendingPart ≡ at → p .room ≡ room → TurnsIn p s t f
+
+-- what a function promises that reads one field
+abbrev pub ShowsAt : {A : Type 0} → Part → ℕ → List ℕ → A → (Record → A) → Type 0
+ShowsAt q at s v f = (p : Plan) → Laid p → has (p .parts) q ≡ true → place p q ≡ at → (r : Record) → InRangeIn p r → s ≡ bytesIn p r → v ≡ f r

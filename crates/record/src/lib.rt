@@ -1,3 +1,6 @@
+// The board record in code.
+pub mod places;
+
 // What the check of a byte record says.
 pub enum Form {
     Good,

@@ -1,50 +1,56 @@
-// Settings and outputs of a record stored in its bytes, one function for each change that a command can make.
+// Settings and outputs of a record stored in its bytes, in every layout that has them at these places, one function for each change that a command can make.
 ghost use mathlib.Core.Path.{_≡_};
-ghost use Prim.Native.Nat.{_+_, _-_, _^_, _≤_};
+ghost use Prim.Native.Nat.{_+_, _-_, _^_, _≤_, _<_};
 ghost use lib.ListN.{length, set};
 ghost use lib.Dec.{eqb};
 ghost use Rattle.wire.specs.Numbers.{halfAt, wordAt};
 ghost use Rattle.record.specs.Record.{withOutput, withPower, withStep, withMode, withOnOff, withInputs, withInterval, withFilter, withSettings, withOutputs};
-ghost use Rattle.record.specs.Place.{Turns, TurnsAt};
-ghost use Rattle.record.specs.Layout.{FilterWord};
+ghost use Rattle.record.specs.Layout.{PowerHalf, StepByte, ModeByte, OnOffByte, InputBytes, OutputByte, IntervalByte, FilterWord, atPower, atStep, atMode, atOnOff, atInputs, atOutputs, atInterval};
+ghost use Rattle.record.specs.Place.{TurnsAt};
+use record::places::AT_INTERVAL;
+use record::places::AT_MODE;
+use record::places::AT_ON_OFF;
+use record::places::AT_OUTPUTS;
+use record::places::AT_POWER;
+use record::places::AT_STEP;
+use record::places::BEFORE_INPUTS;
 
 pub fn set_power(rec: &mut [u8], p: &[u8])
-    requires { ⌜ length (now rec) ≡ 123 ⌝ }
+    requires { ⌜ atPower + 2 ≤ length (now rec) ⌝ }
     requires { ⌜ length (now p) ≡ 2 ⌝ }
-    ensures { λ _. ⌜ Turns (now (rec .entry)) (now (rec .exit)) (λ r. withSettings r (withPower (r .settings) (halfAt (now (p .entry)) 0))) ⌝ }
+    ensures { λ _. ⌜ TurnsAt PowerHalf atPower (now (rec .entry)) (now (rec .exit)) (λ r. withSettings r (withPower (r .settings) (halfAt (now (p .entry)) 0))) ⌝ }
 {
-    rec[9] = p[0];
-    rec[10] = p[1];
+    rec[AT_POWER] = p[0];
+    rec[AT_POWER + 1] = p[1];
 }
 
 pub fn set_step(rec: &mut [u8], v: u8)
-    requires { ⌜ length (now rec) ≡ 123 ⌝ }
-    ensures { λ _. ⌜ Turns (now (rec .entry)) (now (rec .exit)) (λ r. withSettings r (withStep (r .settings) v)) ⌝ }
+    requires { ⌜ atStep < length (now rec) ⌝ }
+    ensures { λ _. ⌜ TurnsAt StepByte atStep (now (rec .entry)) (now (rec .exit)) (λ r. withSettings r (withStep (r .settings) v)) ⌝ }
 {
-    rec[11] = v;
+    rec[AT_STEP] = v;
 }
 
 pub fn set_mode(rec: &mut [u8], v: u8)
-    requires { ⌜ length (now rec) ≡ 123 ⌝ }
-    ensures { λ _. ⌜ Turns (now (rec .entry)) (now (rec .exit)) (λ r. withSettings r (withMode (r .settings) v)) ⌝ }
+    requires { ⌜ atMode < length (now rec) ⌝ }
+    ensures { λ _. ⌜ TurnsAt ModeByte atMode (now (rec .entry)) (now (rec .exit)) (λ r. withSettings r (withMode (r .settings) v)) ⌝ }
 {
-    rec[12] = v;
+    rec[AT_MODE] = v;
 }
 
 pub fn set_on_off(rec: &mut [u8], v: u8)
-    requires { ⌜ length (now rec) ≡ 123 ⌝ }
-    ensures { λ _. ⌜ Turns (now (rec .entry)) (now (rec .exit)) (λ r. withSettings r (withOnOff (r .settings) v)) ⌝ }
+    requires { ⌜ atOnOff < length (now rec) ⌝ }
+    ensures { λ _. ⌜ TurnsAt OnOffByte atOnOff (now (rec .entry)) (now (rec .exit)) (λ r. withSettings r (withOnOff (r .settings) v)) ⌝ }
 {
-    rec[13] = v;
+    rec[AT_ON_OFF] = v;
 }
 
-// Channels 2 to 6 are at places 14 to 18.
 pub fn set_input(rec: &mut [u8], channel: u8, v: u8)
-    requires { ⌜ length (now rec) ≡ 123 ⌝ }
+    requires { ⌜ atInputs + 5 ≤ length (now rec) ⌝ }
     requires { ⌜ (2 ≤ channel) × (channel ≤ 6) ⌝ }
-    ensures { λ _. ⌜ Turns (now (rec .entry)) (now (rec .exit)) (λ r. withSettings r (withInputs (r .settings) (set (r .settings .inputs) (channel - 2) v))) ⌝ }
+    ensures { λ _. ⌜ TurnsAt InputBytes atInputs (now (rec .entry)) (now (rec .exit)) (λ r. withSettings r (withInputs (r .settings) (set (r .settings .inputs) (channel - 2) v))) ⌝ }
 {
-    rec[(channel as usize) + 12] = v;
+    rec[(channel as usize) + BEFORE_INPUTS] = v;
 }
 
 // The bit of output k.
@@ -55,24 +61,25 @@ fn mask_of(k: u8) -> u8
     1 << (k - 1)
 }
 
+// Only the output's bit changes.
 pub fn switch_output(rec: &mut [u8], k: u8, v: u8)
-    requires { ⌜ length (now rec) ≡ 123 ⌝ }
+    requires { ⌜ atOutputs < length (now rec) ⌝ }
     requires { ⌜ (1 ≤ k) × (k ≤ 4) ⌝ }
-    ensures { λ _. ⌜ Turns (now (rec .entry)) (now (rec .exit)) (λ r. withOutputs r (withOutput (r .outputs) k (eqb v 1))) ⌝ }
+    ensures { λ _. ⌜ TurnsAt OutputByte atOutputs (now (rec .entry)) (now (rec .exit)) (λ r. withOutputs r (withOutput (r .outputs) k (eqb v 1))) ⌝ }
 {
     let mask = mask_of(k);
     if v == 1 {
-        rec[19] |= mask;
+        rec[AT_OUTPUTS] |= mask;
     } else {
-        rec[19] &= 15 - mask;
+        rec[AT_OUTPUTS] &= 0xFF - mask;
     }
 }
 
 pub fn set_interval(rec: &mut [u8], v: u8)
-    requires { ⌜ length (now rec) ≡ 123 ⌝ }
-    ensures { λ _. ⌜ Turns (now (rec .entry)) (now (rec .exit)) (λ r. withSettings r (withInterval (r .settings) v)) ⌝ }
+    requires { ⌜ atInterval < length (now rec) ⌝ }
+    ensures { λ _. ⌜ TurnsAt IntervalByte atInterval (now (rec .entry)) (now (rec .exit)) (λ r. withSettings r (withInterval (r .settings) v)) ⌝ }
 {
-    rec[20] = v;
+    rec[AT_INTERVAL] = v;
 }
 
 // At the place that the layout gives the filter word.

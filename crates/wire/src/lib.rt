@@ -1,7 +1,8 @@
-// Bytes on the wire: numbers, buffers, replies.
+// Bytes on the wire: sizes, numbers, buffers, replies.
 pub mod buffer;
 pub mod numbers;
 pub mod reply;
+pub mod sizes;
 
 // What a range says of a value.
 pub enum Range {

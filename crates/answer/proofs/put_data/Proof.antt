@@ -3,7 +3,7 @@ use mathlib.Core.Path.{_≡_, refl}
 use mathlib.Core.List.{List, []}
 use Prim.Native.Nat.{ℕ}
 use lib.ListN.{length}
-use Rattle.record.specs.Layout.{recordOf}
+use Rattle.record.specs.Layout.{recordSize, recordOf}
 use Rattle.command.specs.declared.Command.{Command}
 use Rattle.command.specs.declared.Command.the-variants.{Open, Close, ReadPower, SetPower, ReadStep, SetStep, ReadMode, SetMode, ReadName, SetName, ReadOnOff, SetOnOff, SetInput, ReadInput, SwitchOutput, SetInterval, ReadInterval, Unlock, ReadLock, ReadModel, SetModel, StopSending, StartSending, ReadFilter, SetFilter, ReadPair}
 use Rattle.command.specs.Tables.{spanOf}
@@ -15,7 +15,7 @@ use borrow.Author.Needs.{needs}
 use Rattle.answer.proofs.put_data.Statement.{statement}
 use Rattle.answer.proofs.put_data.Tie as tie
 
-long-enough : (c : tie.After-slice-known) → length (c .before .before .before .args .rec .now) ≡ 123
+long-enough : (c : tie.After-slice-known) → length (c .before .before .before .args .rec .now) ≡ recordSize
 long-enough c = let z = c .before .before .before in sound-long (z .args .rec .now) (z .pre .0)
 
 passed : (c : tie.After-slice-known) (k : Command) → c .before .before .before .args .c ≡ k → Admitted k (c .before .before .before .args .p .now)
@@ -42,6 +42,9 @@ enum-told-3 c = search needs
 
 shared-slice-read-put-two : tie.Need-shared-slice-read-put-two
 shared-slice-read-put-two c = omega (arith, long-enough (c .before .before .before .before))
+
+add-put-two : tie.Need-add-put-two
+add-put-two c = search needs
 
 shared-slice-read-put-two-2 : tie.Need-shared-slice-read-put-two-2
 shared-slice-read-put-two-2 c = omega (arith, long-enough (c .before .before .before .before .before))
@@ -80,7 +83,7 @@ enum-told-9 : tie.Need-enum-told-9
 enum-told-9 c = search needs
 
 put-name-requires : tie.Need-put-name-requires
-put-name-requires c κs = let z = c .before .before .before .before .before .before in ((long-enough (c .before .before .before), z .pre .1 .1 .1), sound-name (z .args .rec .now) (z .pre .0))
+put-name-requires c κs = let z = c .before .before .before .before .before .before in ((omega (arith, long-enough (c .before .before .before)), z .pre .1 .1 .1), sound-name (z .args .rec .now) (z .pre .0))
 
 enum-told-10 : tie.Need-enum-told-10
 enum-told-10 c = search needs
@@ -111,7 +114,7 @@ put-input-requires : tie.Need-put-input-requires
 put-input-requires c κs =
     let z = c .before .before .before .before .before .before .before in
     let g = passed (c .before .before .before .before) ReadInput (c .before .before .enum-told14 .given .1) in
-    ((long-enough (c .before .before .before .before), z .pre .1 .1 .1), read-input-channel (z .args .p .now) (g .range))
+    ((omega (arith, long-enough (c .before .before .before .before)), z .pre .1 .1 .1), read-input-channel (z .args .p .now) (g .range))
 
 enum-told-15 : tie.Need-enum-told-15
 enum-told-15 c = search needs
@@ -144,7 +147,7 @@ enum-told-20 : tie.Need-enum-told-20
 enum-told-20 c = search needs
 
 put-model-requires : tie.Need-put-model-requires
-put-model-requires c κs = (long-enough (c .before .before .before), c .before .before .before .before .before .before .pre .1 .1 .1)
+put-model-requires c κs = (omega (arith, long-enough (c .before .before .before)), c .before .before .before .before .before .before .pre .1 .1 .1)
 
 enum-told-21 : tie.Need-enum-told-21
 enum-told-21 c = search needs
@@ -159,7 +162,7 @@ enum-told-24 : tie.Need-enum-told-24
 enum-told-24 c = search needs
 
 put-filter-requires : tie.Need-put-filter-requires
-put-filter-requires c κs = (long-enough (c .before .before .before), c .before .before .before .before .before .before .pre .1 .1 .1)
+put-filter-requires c κs = (omega (arith, long-enough (c .before .before .before)), c .before .before .before .before .before .before .pre .1 .1 .1)
 
 enum-told-25 : tie.Need-enum-told-25
 enum-told-25 c = search needs
@@ -175,7 +178,8 @@ put-pair-requires : tie.Need-put-pair-requires
 put-pair-requires c κs =
     let z = c .before .before .before .before .before .before .before in
     let g = passed (c .before .before .before .before) ReadPair (c .before .before .enum-told26 .given .1) in
-    ((long-enough (c .before .before .before .before), z .pre .1 .1 .1), pair-channel (z .args .p .now) (g .range))
+    let k = pair-channel (z .args .p .now) (g .range) in
+    ((omega (arith, long-enough (c .before .before .before .before), k .1), z .pre .1 .1 .1), k .0)
 
 same-length : tie.Need-same-length
 same-length c = search needs
@@ -331,6 +335,7 @@ put-data-spec =
     enum-told-2
     enum-told-3
     shared-slice-read-put-two
+    add-put-two
     shared-slice-read-put-two-2
     put-two-requires-2
     enum-told-4

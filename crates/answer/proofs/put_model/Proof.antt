@@ -3,6 +3,9 @@ use borrow.Author.Needs.{needs}
 use Rattle.answer.proofs.put_model.Statement.{statement}
 use Rattle.answer.proofs.put_model.Tie as tie
 
+add-most : tie.Need-add-most
+add-most c = search needs
+
 first-zero-requires : tie.Need-first-zero-requires
 first-zero-requires c κs = search needs
 
@@ -24,6 +27,9 @@ slice-write-out c = search needs
 sub-result : tie.Need-sub-result
 sub-result c = search needs
 
+add-result : tie.Need-add-result
+add-result c = search needs
+
 same-length : tie.Need-same-length
 same-length c = search needs
 
@@ -33,7 +39,7 @@ returns c =
     let a = z .args in
     let e = c .before .before .before .before .before .before .first-zero in
     let i = c .before .before .before .put-in in
-    answers-cut (a .rec .now) (z .pre .0) (e .result) (e .ensures .0) (a .out .now) (a .at) (z .pre .1) (i .last .0) (i .ensures .1) (c .if1 .taken) (i .result) (i .ensures .0)
+    answers-cut (a .rec .now) (a .from) (z .pre .0) (e .result) (e .ensures .0) (a .out .now) (a .at) (z .pre .1) (i .last .0) (i .ensures .1) (c .if1 .taken) (i .result) (i .ensures .0)
 
 same-length-2 : tie.Need-same-length-2
 same-length-2 c = search needs
@@ -44,12 +50,13 @@ returns-2 c =
     let a = z .args in
     let e = c .before .before .before .before .before .before .first-zero in
     let i = c .before .before .before .put-in in
-    answers-whole (a .rec .now) (z .pre .0) (e .result) (e .ensures .0) (a .out .now) (a .at) (z .pre .1) (i .last .0) (i .ensures .1) (c .if1 .left) (e .ensures .1)
+    answers-whole (a .rec .now) (a .from) (z .pre .0) (e .result) (e .ensures .0) (a .out .now) (a .at) (z .pre .1) (i .last .0) (i .ensures .1) (c .if1 .left) (e .ensures .1)
 
 pub put-model-spec : {M : Type 1} → statement M
 put-model-spec =
     tie.close
     (tie.spec
+    add-most
     first-zero-requires
     sub-put-in
     part-put-in-start
@@ -57,6 +64,7 @@ put-model-spec =
     put-in-requires
     slice-write-out
     sub-result
+    add-result
     same-length
     returns
     same-length-2

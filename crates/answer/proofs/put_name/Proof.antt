@@ -1,4 +1,5 @@
 use lib.ListN.{getD}
+use Rattle.record.specs.Layout.{atName}
 use Rattle.answer.proofs.Data.{answers-name}
 use borrow.Author.Needs.{needs}
 use Rattle.answer.proofs.put_name.Statement.{statement}
@@ -33,7 +34,7 @@ returns c =
     let z = c .before .before .before .before .before .before .before .before in
     let a = z .args in
     let i = c .before .before .put-in in
-    answers-name (a .out .now) (a .at) (z .pre .0 .1) (a .rec .now) (getD (a .rec .now) 25 0) (i .last .0) (z .pre .0 .0) (z .pre .1) (i .ensures .1)
+    answers-name (a .out .now) (a .at) (z .pre .0 .1) (a .rec .now) (getD (a .rec .now) atName 0) (i .last .0) (z .pre .0 .0) (z .pre .1) (i .ensures .1)
 
 pub put-name-spec : {M : Type 1} → statement M
 put-name-spec =

@@ -43,7 +43,7 @@ returns c =
     let a = z .args in
     let one = c .before .before .before .before .before .before .put-word in
     let two = c .before .before .put-word2 in
-    answers-pair (a .out .now) (a .at) (z .pre .0 .1) (a .rec .now) (75 + 8 * (a .channel - 1)) (one .last .0) (two .last .0) (one .ensures) (two .ensures)
+    answers-pair (a .out .now) (a .at) (z .pre .0 .1) (a .rec .now) (a .pairs + 8 * (a .channel - 1)) (one .last .0) (two .last .0) (one .ensures) (two .ensures)
 
 pub put-pair-spec : {M : Type 1} → statement M
 put-pair-spec =

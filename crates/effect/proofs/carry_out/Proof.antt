@@ -4,7 +4,7 @@ use mathlib.Core.List.{List}
 use Prim.Native.Nat.{ℕ}
 use native.Mathlib.Nat.{le-antisymm}
 use Rattle.record.specs.Place.{Turns}
-use Rattle.record.specs.Layout.{FlagByte, FilterWord, ModelPart}
+use Rattle.record.specs.Layout.{FlagByte, PowerHalf, StepByte, ModeByte, OnOffByte, InputBytes, OutputByte, IntervalByte, FilterWord, NamePart, ModelPart, atFlags, atPower, atStep, atMode, atOnOff, atInputs, atOutputs, atInterval, atFilter, atName, atModel}
 use Rattle.record.proofs.PlaceLaws.{here}
 use Rattle.command.specs.declared.Command.{Command}
 use Rattle.command.specs.declared.Command.the-variants.{Open, Close, ReadPower, SetPower, ReadStep, SetStep, ReadMode, SetMode, ReadName, SetName, ReadOnOff, SetOnOff, SetInput, ReadInput, SwitchOutput, SetInterval, ReadInterval, Unlock, ReadLock, ReadModel, SetModel, StopSending, StartSending, ReadFilter, SetFilter, ReadPair}
@@ -46,7 +46,7 @@ unfolding spanOf
 set-power-requires c κs =
     let z = c .before .before .before .before .before in
     let g = passed (c .before .before .before) SetPower (c .before .enum-told4 .given .1) in
-    (z .pre .0, le-antisymm (g .most) (g .least))
+    (omega (arith, z .pre .0), le-antisymm (g .most) (g .least))
 
 enum-told-5 : tie.Need-enum-told-5
 enum-told-5 c = search needs
@@ -85,7 +85,7 @@ unfolding spanOf
 set-name-requires c κs =
     let z = c .before .before .before .before .before in
     let g = passed (c .before .before .before) SetName (c .before .enum-told10 .given .1) in
-    (z .pre .0, g .most)
+    (omega (arith, z .pre .0), g .most)
 
 enum-told-11 : tie.Need-enum-told-11
 enum-told-11 c = search needs
@@ -115,7 +115,7 @@ set-input-requires : tie.Need-set-input-requires
 set-input-requires c κs =
     let z = c .before .before .before .before .before .before .before in
     let g = passed (c .before .before .before .before .before) SetInput (c .before .before .before .enum-told13 .given .1) in
-    (z .pre .0, set-input-channel (z .args .p .now) (g .range))
+    (omega (arith, z .pre .0), set-input-channel (z .args .p .now) (g .range))
 
 enum-told-14 : tie.Need-enum-told-14
 enum-told-14 c = search needs
@@ -135,7 +135,7 @@ switch-output-requires : tie.Need-switch-output-requires
 switch-output-requires c κs =
     let z = c .before .before .before .before .before .before .before in
     let g = passed (c .before .before .before .before .before) SwitchOutput (c .before .before .before .enum-told15 .given .1) in
-    (z .pre .0, output-number (z .args .p .now) (g .range))
+    (omega (arith, z .pre .0), output-number (z .args .p .now) (g .range))
 
 enum-told-16 : tie.Need-enum-told-16
 enum-told-16 c = search needs
@@ -170,7 +170,7 @@ unfolding spanOf
 set-model-requires c κs =
     let z = c .before .before .before .before .before in
     let g = passed (c .before .before .before) SetModel (c .before .enum-told21 .given .1) in
-    ((omega (arith, z .pre .0), omega arith), g .most)
+    (omega (arith, z .pre .0), g .most)
 
 enum-told-22 : tie.Need-enum-told-22
 enum-told-22 c = search needs
@@ -205,14 +205,14 @@ same-length c = search needs
 
 returns : tie.Need-returns
 unfolding effectOf
-returns c = turns (c .before .before .before .before .before .before) Open (c .before .before .before .before .enum-told .given .1) (here FlagByte 3 _ _ _ refl refl (c .before .before .open-mode .ensures))
+returns c = turns (c .before .before .before .before .before .before) Open (c .before .before .before .before .enum-told .given .1) (here FlagByte atFlags _ _ _ refl refl (c .before .before .open-mode .ensures))
 
 same-length-2 : tie.Need-same-length-2
 same-length-2 c = search needs
 
 returns-2 : tie.Need-returns-2
 unfolding effectOf
-returns-2 c = turns (c .before .before .before .before .before .before) Close (c .before .before .before .before .enum-told2 .given .1) (here FlagByte 3 _ _ _ refl refl (c .before .before .close-mode .ensures))
+returns-2 c = turns (c .before .before .before .before .before .before) Close (c .before .before .before .before .enum-told2 .given .1) (here FlagByte atFlags _ _ _ refl refl (c .before .before .close-mode .ensures))
 
 returns-3 : tie.Need-returns-3
 unfolding effectOf
@@ -223,7 +223,7 @@ same-length-3 c = search needs
 
 returns-4 : tie.Need-returns-4
 unfolding effectOf
-returns-4 c = turns (c .before .before .before .before .before .before) SetPower (c .before .before .before .before .enum-told4 .given .1) (c .before .before .set-power .ensures)
+returns-4 c = turns (c .before .before .before .before .before .before) SetPower (c .before .before .before .before .enum-told4 .given .1) (here PowerHalf atPower _ _ _ refl refl (c .before .before .set-power .ensures))
 
 returns-5 : tie.Need-returns-5
 unfolding effectOf
@@ -234,7 +234,7 @@ same-length-4 c = search needs
 
 returns-6 : tie.Need-returns-6
 unfolding effectOf
-returns-6 c = turns (c .before .before .before .before .before .before .before) SetStep (c .before .before .before .before .before .enum-told6 .given .1) (c .before .before .set-step .ensures)
+returns-6 c = turns (c .before .before .before .before .before .before .before) SetStep (c .before .before .before .before .before .enum-told6 .given .1) (here StepByte atStep _ _ _ refl refl (c .before .before .set-step .ensures))
 
 returns-7 : tie.Need-returns-7
 unfolding effectOf
@@ -245,7 +245,7 @@ same-length-5 c = search needs
 
 returns-8 : tie.Need-returns-8
 unfolding effectOf
-returns-8 c = turns (c .before .before .before .before .before .before .before) SetMode (c .before .before .before .before .before .enum-told8 .given .1) (c .before .before .set-mode .ensures)
+returns-8 c = turns (c .before .before .before .before .before .before .before) SetMode (c .before .before .before .before .before .enum-told8 .given .1) (here ModeByte atMode _ _ _ refl refl (c .before .before .set-mode .ensures))
 
 returns-9 : tie.Need-returns-9
 unfolding effectOf
@@ -256,7 +256,7 @@ same-length-6 c = search needs
 
 returns-10 : tie.Need-returns-10
 unfolding effectOf
-returns-10 c = turns (c .before .before .before .before .before .before) SetName (c .before .before .before .before .enum-told10 .given .1) (c .before .before .set-name .ensures)
+returns-10 c = turns (c .before .before .before .before .before .before) SetName (c .before .before .before .before .enum-told10 .given .1) (here NamePart atName _ _ _ refl refl (c .before .before .set-name .ensures))
 
 returns-11 : tie.Need-returns-11
 unfolding effectOf
@@ -267,14 +267,14 @@ same-length-7 c = search needs
 
 returns-12 : tie.Need-returns-12
 unfolding effectOf
-returns-12 c = turns (c .before .before .before .before .before .before .before) SetOnOff (c .before .before .before .before .before .enum-told12 .given .1) (c .before .before .set-on-off .ensures)
+returns-12 c = turns (c .before .before .before .before .before .before .before) SetOnOff (c .before .before .before .before .before .enum-told12 .given .1) (here OnOffByte atOnOff _ _ _ refl refl (c .before .before .set-on-off .ensures))
 
 same-length-8 : tie.Need-same-length-8
 same-length-8 c = search needs
 
 returns-13 : tie.Need-returns-13
 unfolding effectOf
-returns-13 c = turns (c .before .before .before .before .before .before .before .before) SetInput (c .before .before .before .before .before .before .enum-told13 .given .1) (c .before .before .set-input .ensures)
+returns-13 c = turns (c .before .before .before .before .before .before .before .before) SetInput (c .before .before .before .before .before .before .enum-told13 .given .1) (here InputBytes atInputs _ _ _ refl refl (c .before .before .set-input .ensures))
 
 returns-14 : tie.Need-returns-14
 unfolding effectOf
@@ -285,14 +285,14 @@ same-length-9 c = search needs
 
 returns-15 : tie.Need-returns-15
 unfolding effectOf
-returns-15 c = turns (c .before .before .before .before .before .before .before .before) SwitchOutput (c .before .before .before .before .before .before .enum-told15 .given .1) (c .before .before .switch-output .ensures)
+returns-15 c = turns (c .before .before .before .before .before .before .before .before) SwitchOutput (c .before .before .before .before .before .before .enum-told15 .given .1) (here OutputByte atOutputs _ _ _ refl refl (c .before .before .switch-output .ensures))
 
 same-length-10 : tie.Need-same-length-10
 same-length-10 c = search needs
 
 returns-16 : tie.Need-returns-16
 unfolding effectOf
-returns-16 c = turns (c .before .before .before .before .before .before .before) SetInterval (c .before .before .before .before .before .enum-told16 .given .1) (c .before .before .set-interval .ensures)
+returns-16 c = turns (c .before .before .before .before .before .before .before) SetInterval (c .before .before .before .before .before .enum-told16 .given .1) (here IntervalByte atInterval _ _ _ refl refl (c .before .before .set-interval .ensures))
 
 returns-17 : tie.Need-returns-17
 unfolding effectOf
@@ -303,7 +303,7 @@ same-length-11 c = search needs
 
 returns-18 : tie.Need-returns-18
 unfolding effectOf
-returns-18 c = turns (c .before .before .before .before .before .before) Unlock (c .before .before .before .before .enum-told18 .given .1) (here FlagByte 3 _ _ _ refl refl (c .before .before .unlock .ensures))
+returns-18 c = turns (c .before .before .before .before .before .before) Unlock (c .before .before .before .before .enum-told18 .given .1) (here FlagByte atFlags _ _ _ refl refl (c .before .before .unlock .ensures))
 
 returns-19 : tie.Need-returns-19
 unfolding effectOf
@@ -318,21 +318,21 @@ same-length-12 c = search needs
 
 returns-21 : tie.Need-returns-21
 unfolding effectOf
-returns-21 c = turns (c .before .before .before .before .before .before) SetModel (c .before .before .before .before .enum-told21 .given .1) (here ModelPart 41 _ _ _ refl refl (c .before .before .set-model .ensures))
+returns-21 c = turns (c .before .before .before .before .before .before) SetModel (c .before .before .before .before .enum-told21 .given .1) (here ModelPart atModel _ _ _ refl refl (c .before .before .set-model .ensures))
 
 same-length-13 : tie.Need-same-length-13
 same-length-13 c = search needs
 
 returns-22 : tie.Need-returns-22
 unfolding effectOf
-returns-22 c = turns (c .before .before .before .before .before .before) StopSending (c .before .before .before .before .enum-told22 .given .1) (here FlagByte 3 _ _ _ refl refl (c .before .before .stop-sending .ensures))
+returns-22 c = turns (c .before .before .before .before .before .before) StopSending (c .before .before .before .before .enum-told22 .given .1) (here FlagByte atFlags _ _ _ refl refl (c .before .before .stop-sending .ensures))
 
 same-length-14 : tie.Need-same-length-14
 same-length-14 c = search needs
 
 returns-23 : tie.Need-returns-23
 unfolding effectOf
-returns-23 c = turns (c .before .before .before .before .before .before) StartSending (c .before .before .before .before .enum-told23 .given .1) (here FlagByte 3 _ _ _ refl refl (c .before .before .start-sending .ensures))
+returns-23 c = turns (c .before .before .before .before .before .before) StartSending (c .before .before .before .before .enum-told23 .given .1) (here FlagByte atFlags _ _ _ refl refl (c .before .before .start-sending .ensures))
 
 returns-24 : tie.Need-returns-24
 unfolding effectOf
@@ -343,7 +343,7 @@ same-length-15 c = search needs
 
 returns-25 : tie.Need-returns-25
 unfolding effectOf
-returns-25 c = turns (c .before .before .before .before .before .before) SetFilter (c .before .before .before .before .enum-told25 .given .1) (here FilterWord 21 _ _ _ refl refl (c .before .before .set-filter .ensures))
+returns-25 c = turns (c .before .before .before .before .before .before) SetFilter (c .before .before .before .before .enum-told25 .given .1) (here FilterWord atFilter _ _ _ refl refl (c .before .before .set-filter .ensures))
 
 returns-26 : tie.Need-returns-26
 unfolding effectOf

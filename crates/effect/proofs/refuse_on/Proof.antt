@@ -3,7 +3,7 @@ use mathlib.Core.Path.{_≡_, refl}
 use mathlib.Core.List.{List}
 use Prim.Native.Nat.{ℕ}
 use Rattle.record.specs.Place.{Turns}
-use Rattle.record.specs.Layout.{TriesByte}
+use Rattle.record.specs.Layout.{TriesByte, atTries}
 use Rattle.record.proofs.PlaceLaws.{here}
 use Rattle.command.specs.declared.Refusal.{Refusal}
 use Rattle.command.specs.declared.Refusal.the-variants.{Unknown, Unbuilt, Parameters, NoAccess, BadCode, TooBig, TooSmall}
@@ -61,7 +61,7 @@ same-length c = search needs
 
 returns-5 : tie.Need-returns-5
 unfolding leftBy
-returns-5 c = turns (c .before .before .before .before .before .before) BadCode (c .before .before .before .before .enum-told5 .given .1) (here TriesByte 4 _ _ _ refl refl (c .before .before .count-try .ensures))
+returns-5 c = turns (c .before .before .before .before .before .before) BadCode (c .before .before .before .before .enum-told5 .given .1) (here TriesByte atTries _ _ _ refl refl (c .before .before .count-try .ensures))
 
 returns-6 : tie.Need-returns-6
 unfolding leftBy

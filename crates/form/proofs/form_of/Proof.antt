@@ -1,5 +1,6 @@
 use Rattle.form.proofs.Fine.{short, bad, good}
 use mathlib.Core.Path.{sym, _∙_}
+use mathlib.Core.Bool.{and-true}
 use borrow.Author.Tests.{not-true, not-false}
 use borrow.Author.Needs.{needs}
 use Rattle.form.proofs.form_of.Statement.{statement}
@@ -42,7 +43,7 @@ model-fine-requires : tie.Need-model-fine-requires
 model-fine-requires c κs = search needs
 
 returns-7 : tie.Need-returns-7
-returns-7 c = let z = c .before .before .before .before .before .before .before .before .before .before .before .before .before .before in bad (z .args .s .now) (c .before .before .before .before .before .before .before .before .before .before .before .before .if1 .left) 5 (sym (c .before .model-fine .ensures) ∙ not-true _ (c .if7 .taken))
+returns-7 c = let z = c .before .before .before .before .before .before .before .before .before .before .before .before .before .before in bad (z .args .s .now) (c .before .before .before .before .before .before .before .before .before .before .before .before .if1 .left) 5 (and-true _ ∙ sym (c .before .model-fine .ensures) ∙ not-true _ (c .if7 .taken))
 
 pending-fine-requires : tie.Need-pending-fine-requires
 pending-fine-requires c κs = search needs
@@ -65,7 +66,7 @@ returns-10 c =
     (sym (c .before .before .before .before .before .before .before .before .before .before .before .inputs-fine .ensures) ∙ not-false _ (c .before .before .before .before .before .before .before .before .before .before .if4 .left))
     (sym (c .before .before .before .before .before .before .before .before .before .switches-fine .ensures) ∙ not-false _ (c .before .before .before .before .before .before .before .before .if5 .left))
     (sym (c .before .before .before .before .before .before .before .name-fine .ensures) ∙ not-false _ (c .before .before .before .before .before .before .if6 .left))
-    (sym (c .before .before .before .before .before .model-fine .ensures) ∙ not-false _ (c .before .before .before .before .if7 .left))
+    (and-true _ ∙ sym (c .before .before .before .before .before .model-fine .ensures) ∙ not-false _ (c .before .before .before .before .if7 .left))
     (sym (c .before .before .before .pending-fine .ensures) ∙ not-false _ (c .before .before .if8 .left))
     (sym (c .before .pairs-fine .ensures) ∙ not-false _ (c .if9 .left))
 

@@ -6,14 +6,26 @@ use Rattle.form.proofs.inputs_fine.Tie as tie
 shared-slice-read-result : tie.Need-shared-slice-read-result
 shared-slice-read-result c = search needs
 
+add-result : tie.Need-add-result
+add-result c = search needs
+
 shared-slice-read-result-2 : tie.Need-shared-slice-read-result-2
 shared-slice-read-result-2 c = search needs
+
+add-result-2 : tie.Need-add-result-2
+add-result-2 c = search needs
 
 shared-slice-read-result-3 : tie.Need-shared-slice-read-result-3
 shared-slice-read-result-3 c = search needs
 
+add-result-3 : tie.Need-add-result-3
+add-result-3 c = search needs
+
 shared-slice-read-result-4 : tie.Need-shared-slice-read-result-4
 shared-slice-read-result-4 c = search needs
+
+add-result-4 : tie.Need-add-result-4
+add-result-4 c = search needs
 
 shared-slice-read-result-5 : tie.Need-shared-slice-read-result-5
 shared-slice-read-result-5 c = search needs
@@ -26,8 +38,12 @@ inputs-fine-spec =
     tie.close
     (tie.spec
     shared-slice-read-result
+    add-result
     shared-slice-read-result-2
+    add-result-2
     shared-slice-read-result-3
+    add-result-3
     shared-slice-read-result-4
+    add-result-4
     shared-slice-read-result-5
     returns)

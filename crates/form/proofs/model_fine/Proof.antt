@@ -4,6 +4,9 @@ use borrow.Author.Needs.{needs}
 use Rattle.form.proofs.model_fine.Statement.{statement}
 use Rattle.form.proofs.model_fine.Tie as tie
 
+add-end : tie.Need-add-end
+add-end c = search needs
+
 first-zero-requires : tie.Need-first-zero-requires
 first-zero-requires c κs = search needs
 
@@ -11,7 +14,7 @@ zeros-requires : tie.Need-zeros-requires
 zeros-requires c κs = search needs
 
 returns : tie.Need-returns
-returns c = let z = c .before .before .before in c .zeros .ensures ∙ model-is (z .args .s .now) (z .pre) _ (c .before .first-zero .ensures .0)
+returns c = let z = c .before .before .before in c .zeros .ensures ∙ model-is (z .args .s .now) (z .args .at) (z .pre) _ (c .before .first-zero .ensures .0)
 
 pub model-fine-spec : {M : Type 1} → statement M
-model-fine-spec = tie.close (tie.spec first-zero-requires zeros-requires returns)
+model-fine-spec = tie.close (tie.spec add-end first-zero-requires zeros-requires returns)

@@ -49,7 +49,7 @@ shared-slice-read-result-15 : tie.Need-shared-slice-read-result-15
 shared-slice-read-result-15 c = search needs
 
 returns : tie.Need-returns
-returns c = name-room-is (c .before .before .before .before .before .before .before .before .before .before .before .before .before .before .before .args .s .now)
+returns c = name-room-is (c .before .before .before .before .before .before .before .before .before .before .before .before .before .before .before .args .p .now)
 
 pub name-room-spec : {M : Type 1} → statement M
 name-room-spec =

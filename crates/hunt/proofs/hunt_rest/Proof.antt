@@ -1,6 +1,7 @@
 use mathlib.Core.Path.{refl}
 use Rattle.record.proofs.PlaceLaws.{here-pending}
 use Rattle.hunt.proofs.JoinLaws.{roomed, rests-kept, rests-short, rests}
+use Rattle.record.specs.Layout.{pendingRoom, atPending}
 use borrow.Author.Needs.{needs}
 use Rattle.hunt.proofs.hunt_rest.Statement.{statement}
 use Rattle.hunt.proofs.hunt_rest.Tie as tie
@@ -27,7 +28,7 @@ same-length-2 : tie.Need-same-length-2
 same-length-2 c = search needs
 
 returns : tie.Need-returns
-returns c = rests (c .before .before .before .before .before .before .before .before .before .before .before .before .before .before .before .args .rec .now) (c .before .before .before .before .before .before .before .before .before .before .before .before .before .before .before .args .s .now) (c .before .before .before .before .before .before .before .before .before .before .before .before .before .before .before .args .out .now) (c .before .before .before .before .before .before .before .before .before .before .before .before .before .before .before .args .start) (c .before .before .before .before .before .before .before .before .before .hunt-in .result) (c .before .before .before .before .before .before .before .before .before .hunt-in .last .0) (c .before .before .before .before .before .before .before .before .before .hunt-in .last .1 .1 .1 .0) (c .before .before .before .before .before .before .before .before .before .hunt-in .ensures) _ (here-pending 56 18 _ _ _ refl refl (c .before .before .set-pending .ensures))
+returns c = rests (c .before .before .before .before .before .before .before .before .before .before .before .before .before .before .before .args .rec .now) (c .before .before .before .before .before .before .before .before .before .before .before .before .before .before .before .args .s .now) (c .before .before .before .before .before .before .before .before .before .before .before .before .before .before .before .args .out .now) (c .before .before .before .before .before .before .before .before .before .before .before .before .before .before .before .args .start) (c .before .before .before .before .before .before .before .before .before .hunt-in .result) (c .before .before .before .before .before .before .before .before .before .hunt-in .last .0) (c .before .before .before .before .before .before .before .before .before .hunt-in .last .1 .1 .1 .0) (c .before .before .before .before .before .before .before .before .before .hunt-in .ensures) _ (here-pending atPending pendingRoom _ _ _ refl refl (c .before .before .set-pending .ensures))
 
 pub hunt-rest-spec : {M : Type 1} → statement M
 hunt-rest-spec =

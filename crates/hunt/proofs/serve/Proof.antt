@@ -4,6 +4,9 @@ use Prim.Native.Nat.{ℕ, _+_, _-_, _*_, _/_, _≤_, _<_}
 use mathlib.Core.Path.{_≡_, refl, sym}
 use mathlib.Core.List.{List}
 use lib.ListN.{length, getD, take, drop}
+use Rattle.wire.specs.Sizes.{frameMost}
+use Rattle.hunt.specs.Hunt.{roomFor}
+use Rattle.record.specs.Layout.{recordSize, pendingRoom, atPending}
 use Rattle.record.specs.Place.{Sound}
 use Rattle.record.proofs.PlaceLaws.{holds-long}
 use Rattle.hunt.proofs.GoingLaws.{going-sound}
@@ -24,7 +27,7 @@ module _ (j : tie.After-join) where
   out₀ = j .before .before .before .before .before .before .before .args .out .now
 
   abbrev held : ℕ
-  held = getD rec₀ 56 0
+  held = getD rec₀ atPending 0
 
   abbrev head : List ℕ
   head = j .join .last .1 .1 .1 .0
@@ -35,13 +38,13 @@ module _ (j : tie.After-join) where
   sound : Sound rec₀
   sound = j .before .before .before .before .before .before .before .pre .0
 
-  few : held ≤ 18
+  few : held ≤ pendingRoom
   few = held-few rec₀ sound
 
   long : length (take total head) ≡ total
   long = stream-long rec₀ sound input out₀ head total (j .join .ensures)
 
-  sum : total ≡ held + (length input - (length input - 19))
+  sum : total ≡ held + (length input - (length input - frameMost))
   sum = total-is rec₀ sound input out₀ head total (j .join .ensures)
 
 -- behind the hunt through the joined head
@@ -61,7 +64,7 @@ module _ (f : tie.After-hunt-in) where
   within : at ≤ total j
   within = omega (arith, long j, f .hunt-in .ensures .going .sofar .along .within)
 
-  waits-short : at < held j → (length rec₁ ≡ 123) × (length (take (total j - at) (drop at (head j))) ≤ 18)
+  waits-short : at < held j → (length rec₁ ≡ recordSize) × (length (take (total j - at) (drop at (head j))) ≤ pendingRoom)
   waits-short a = (
     first-kept (rec₀ j) (sound j) (input j) (out₀ j) (head j) (total j) (j .join .ensures) (f .hunt-in .result) rec₁ out₁ (f .hunt-in .ensures),
     short-first (rec₀ j) (sound j) (input j) (out₀ j) (head j) (total j) (j .join .ensures) (f .hunt-in .result) rec₁ out₁ (f .hunt-in .ensures) a,
@@ -72,7 +75,7 @@ module _ (f : tie.After-hunt-in) where
     starts : at - held j ≤ length (input j)
     starts = from-inside (rec₀ j) (sound j) (input j) (out₀ j) (head j) (total j) (j .join .ensures) (f .hunt-in .result) rec₁ out₁ (f .hunt-in .ensures) past (j .before .before .before .before .before .before .before .pre .1 .1)
 
-    fits : f .hunt-in .result .wrote + 19 * (length (take (length (input j) - (at - held j)) (drop (at - held j) (input j))) / 4) ≤ length out₁
+    fits : f .hunt-in .result .wrote + roomFor (length (take (length (input j) - (at - held j)) (drop (at - held j) (input j)))) ≤ length out₁
     fits = rest-fits (rec₀ j) (sound j) (input j) (out₀ j) (head j) (total j) (j .join .ensures) (f .hunt-in .result) rec₁ out₁ (f .hunt-in .ensures) past (j .before .before .before .before .before .before .before .pre .1 .1)
 
 slice-read-held : tie.Need-slice-read-held
@@ -85,7 +88,7 @@ slice-aggregate-join : tie.Need-slice-aggregate-join
 slice-aggregate-join c = search needs
 
 join-requires : tie.Need-join-requires
-join-requires c κs = let z = c .before .before .before .before .before .before in (holds-long _ _ (z .pre .0), held-few (z .args .rec .now) (z .pre .0), refl)
+join-requires c κs = let z = c .before .before .before .before .before .before in (omega (arith, holds-long _ _ (z .pre .0)), held-few (z .args .rec .now) (z .pre .0), refl)
 
 array-share-prefix-head : tie.Need-array-share-prefix-head
 array-share-prefix-head c = let j = c .before .before in omega (arith, sum j, few j, j .join .kept)
@@ -120,7 +123,7 @@ returns : tie.Need-returns
 returns c =
     let f = c .before .before .before .before .before .before .before .before .before .before .before in
     let j = f .before .before .before .before .before in
-    serves-first (rec₀ j) (sound j) (input j) (out₀ j) (head j) (total j) (j .join .ensures) (f .hunt-in .result) (rec₁ f) (out₁ f) (f .hunt-in .ensures) (c .before .before .before .before .before .before .if1 .taken) _ (here-pending 56 18 _ _ _ refl refl (c .before .before .set-pending .ensures))
+    serves-first (rec₀ j) (sound j) (input j) (out₀ j) (head j) (total j) (j .join .ensures) (f .hunt-in .result) (rec₁ f) (out₁ f) (f .hunt-in .ensures) (c .before .before .before .before .before .before .if1 .taken) _ (here-pending atPending pendingRoom _ _ _ refl refl (c .before .before .set-pending .ensures))
 
 sub-hunt-rest : tie.Need-sub-hunt-rest
 sub-hunt-rest c = starts (c .before .before .before .before .before .before) (omega (arith, c .before .if1 .left))

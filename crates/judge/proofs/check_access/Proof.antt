@@ -1,5 +1,6 @@
 use mathlib.Core.Path.{refl, sym, _∙_}
 use Rattle.command.specs.Judge.{accessOf}
+use Rattle.judge.proofs.Checks.{flag-here}
 use borrow.Author.Needs.{needs}
 use Rattle.judge.proofs.check_access.Statement.{statement}
 use Rattle.judge.proofs.check_access.Tie as tie
@@ -27,7 +28,7 @@ is-open-requires-3 c κs = search needs
 
 returns : tie.Need-returns
 unfolding accessOf
-returns c r i e = rw (c .before .before .enum-told4 .given .1, sym (c .before .is-open3 .ensures r i e) ∙ c .if3 .taken) refl
+returns c r i e = rw (c .before .before .enum-told4 .given .1, sym (flag-here _ _ _ (c .before .is-open3 .ensures) r i e) ∙ c .if3 .taken) refl
 
 is-unlocked-requires : tie.Need-is-unlocked-requires
 is-unlocked-requires c κs = search needs
@@ -44,27 +45,27 @@ returns-2 c r i e = rw (c .enum-told .given .1) refl
 
 returns-3 : tie.Need-returns-3
 unfolding accessOf
-returns-3 c r i e = rw (c .before .before .enum-told2 .given .1, sym (c .before .is-open .ensures r i e) ∙ c .if1 .taken) refl
+returns-3 c r i e = rw (c .before .before .enum-told2 .given .1, sym (flag-here _ _ _ (c .before .is-open .ensures) r i e) ∙ c .if1 .taken) refl
 
 returns-4 : tie.Need-returns-4
 unfolding accessOf
-returns-4 c r i e = rw (c .before .before .enum-told2 .given .1, sym (c .before .is-open .ensures r i e) ∙ c .if1 .left) refl
+returns-4 c r i e = rw (c .before .before .enum-told2 .given .1, sym (flag-here _ _ _ (c .before .is-open .ensures) r i e) ∙ c .if1 .left) refl
 
 returns-5 : tie.Need-returns-5
 unfolding accessOf
-returns-5 c r i e = rw (c .before .before .enum-told3 .given .1, sym (c .before .is-open2 .ensures r i e) ∙ c .if2 .taken) refl
+returns-5 c r i e = rw (c .before .before .enum-told3 .given .1, sym (flag-here _ _ _ (c .before .is-open2 .ensures) r i e) ∙ c .if2 .taken) refl
 
 returns-6 : tie.Need-returns-6
 unfolding accessOf
-returns-6 c r i e = rw (c .before .before .enum-told3 .given .1, sym (c .before .is-open2 .ensures r i e) ∙ c .if2 .left) refl
+returns-6 c r i e = rw (c .before .before .enum-told3 .given .1, sym (flag-here _ _ _ (c .before .is-open2 .ensures) r i e) ∙ c .if2 .left) refl
 
 returns-7 : tie.Need-returns-7
 unfolding accessOf
-returns-7 c r i e = rw (c .before .before .before .before .enum-told4 .given .1, sym (c .before .before .before .is-open3 .ensures r i e) ∙ c .before .before .if3 .left, sym (c .before .is-unlocked .ensures r i e) ∙ c .if4 .taken) refl
+returns-7 c r i e = rw (c .before .before .before .before .enum-told4 .given .1, sym (flag-here _ _ _ (c .before .before .before .is-open3 .ensures) r i e) ∙ c .before .before .if3 .left, sym (flag-here _ _ _ (c .before .is-unlocked .ensures) r i e) ∙ c .if4 .taken) refl
 
 returns-8 : tie.Need-returns-8
 unfolding accessOf
-returns-8 c r i e = rw (c .before .before .before .before .enum-told4 .given .1, sym (c .before .before .before .is-open3 .ensures r i e) ∙ c .before .before .if3 .left, sym (c .before .is-unlocked .ensures r i e) ∙ c .if4 .left) refl
+returns-8 c r i e = rw (c .before .before .before .before .enum-told4 .given .1, sym (flag-here _ _ _ (c .before .before .before .is-open3 .ensures) r i e) ∙ c .before .before .if3 .left, sym (flag-here _ _ _ (c .before .is-unlocked .ensures) r i e) ∙ c .if4 .left) refl
 
 returns-9 : tie.Need-returns-9
 returns-9 c r i e = rw (c .before .enum-told5 .given .1) (c .code-access .ensures r i e)

@@ -1,4 +1,5 @@
 use Prim.Native.Nat.{_+_, _-_}
+use Rattle.record.specs.Layout.{modelRoom}
 use Rattle.parts.proofs.Turn.{turn-model}
 use native.Mathlib.Omega.{arith}
 use borrow.Author.Needs.{needs}
@@ -30,7 +31,7 @@ returns : tie.Need-returns
 returns c =
     let q = c .before .before .before .before .before in
     let a = q .before .before .before .args in
-    rw (c .before .before .put-part .ensures) (turn-model (a .rec .now) (a .p .now) (a .at) (a .at + 15 - a .at) (q .first-zero .result) (omega arith) (q .first-zero .ensures .0))
+    rw (c .before .before .put-part .ensures) (turn-model (a .rec .now) (a .p .now) (a .at) (a .at + modelRoom - a .at) (q .first-zero .result) (omega arith) (q .first-zero .ensures .0))
 
 pub set-model-spec : {M : Type 1} → statement M
 set-model-spec =

@@ -4,6 +4,7 @@ use Prim.Native.Nat.{_≤_}
 use lib.ListN.{length}
 use Rattle.wire.specs.Ranges.{also}
 use Rattle.record.specs.Limits.{powerRange, filterRange}
+use Rattle.record.specs.Layout.{filters}
 use Rattle.command.specs.declared.Command.the-variants.{SetPower, SetStep, SetMode, SetOnOff, SetInput, ReadInput, SwitchOutput, SetInterval, SetFilter, ReadPair}
 use Rattle.command.specs.Tables.{spanOf, rangeOf}
 use Rattle.range.proofs.Ranges.{enough}
@@ -280,7 +281,7 @@ returns-24 c = rw (c .enum-told24 .given .1) refl
 
 returns-25 : tie.Need-returns-25
 unfolding rangeOf
-returns-25 c = rw (c .before .before .enum-told25 .given .1) (c .filter-range .ensures ∙ ap (filterRange 64) (c .before .word-at .ensures))
+returns-25 c = rw (c .before .before .enum-told25 .given .1) (c .filter-range .ensures ∙ ap (filterRange filters) (c .before .word-at .ensures))
 
 returns-26 : tie.Need-returns-26
 unfolding rangeOf

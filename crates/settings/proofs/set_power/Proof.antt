@@ -12,6 +12,9 @@ slice-write-rec c = search needs
 shared-slice-read-rec-2 : tie.Need-shared-slice-read-rec-2
 shared-slice-read-rec-2 c = search needs
 
+add-rec : tie.Need-add-rec
+add-rec c = search needs
+
 slice-write-rec-2 : tie.Need-slice-write-rec-2
 slice-write-rec-2 c = search needs
 
@@ -28,6 +31,7 @@ set-power-spec =
     shared-slice-read-rec
     slice-write-rec
     shared-slice-read-rec-2
+    add-rec
     slice-write-rec-2
     same-length
     returns)

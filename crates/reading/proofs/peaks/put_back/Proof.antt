@@ -1,8 +1,9 @@
-use Prim.Native.Nat.{_+_, _%_}
 use mathlib.Core.Path.{_≡_, _∙_}
 use mathlib.Core.Bool.{cond}
 use native.Mathlib.Omega.{arith}
 use lib.ListN.{length, getD, set, length-set}
+use lib.Bits.{bitOr}
+use Rattle.record.specs.Layout.{atFlags}
 use Rattle.reading.proofs.Readings.{length-mapped, six-stored}
 use borrow.Author.Needs.{needs}
 use Rattle.reading.proofs.peaks.put_back.Statement.{statement}
@@ -16,9 +17,6 @@ slice-read-rec c = search needs
 
 flag-of-requires : tie.Need-flag-of-requires
 flag-of-requires c κs = search needs
-
-add-rec : tie.Need-add-rec
-add-rec c = search needs
 
 slice-write-rec : tie.Need-slice-write-rec
 slice-write-rec c = search needs
@@ -54,16 +52,15 @@ returns : tie.Need-returns
 returns c =
     let z = c .before .before .before .before .before .before .before .before .before .before .before .before .before .before .before .before .before .before in
     let a = z .args in
-    rw (c .before .before .put-three2 .ensures, c .before .before .before .before .before .before .before .before .before .put-three .ensures, c .before .before .before .before .before .before .before .before .before .before .before .before .before .before .flag-of .ensures .0)
-    (six-stored (set (a .rec .now) 3 (getD (a .rec .now) 3 0 % 8 + cond (a .d .reading) 8 0)) (a .d .peaks) (six z))
+    rw (c .before .before .put-three2 .ensures, c .before .before .before .before .before .before .before .before .before .put-three .ensures, c .before .before .before .before .before .before .before .before .before .before .before .before .before .before .before .flag-of .ensures .0)
+    (six-stored (set (a .rec .now) atFlags (bitOr (getD (a .rec .now) atFlags 0) (cond (a .d .reading) 8 0))) (a .d .peaks) (six z))
 
 pub put-back-spec : {M : Type 1} → statement M
 put-back-spec =
     tie.close
     (tie.spec
-    slice-read-rec
     flag-of-requires
-    add-rec
+    slice-read-rec
     slice-write-rec
     array-copy-out-put-three
     array-copy-out-put-three-2

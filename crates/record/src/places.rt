@@ -1,0 +1,81 @@
+// The layout that all calls take, in numbers: its size, the place of each part, rooms, and the bits of its flags.
+use wire::sizes::WAIT_MOST;
+
+pub const RECORD_SIZE: usize = 123;
+
+pub const VERSION: u8 = 1;
+
+// What the length field says.
+pub const SIZE_FIELD: u16 = RECORD_SIZE as u16;
+
+pub const AT_SIZE: usize = 0;
+
+pub const AT_VERSION: usize = 2;
+
+pub const AT_FLAGS: usize = 3;
+
+pub const AT_TRIES: usize = 4;
+
+pub const AT_CODE: usize = 5;
+
+pub const AT_POWER: usize = 9;
+
+pub const AT_STEP: usize = 11;
+
+pub const AT_MODE: usize = 12;
+
+pub const AT_ON_OFF: usize = 13;
+
+pub const AT_INPUTS: usize = 14;
+
+pub const AT_OUTPUTS: usize = 19;
+
+pub const AT_INTERVAL: usize = 20;
+
+pub const AT_FILTER: usize = 21;
+
+pub const AT_NAME: usize = 25;
+
+pub const AT_MODEL: usize = 41;
+
+pub const AT_PENDING: usize = 56;
+
+pub const AT_PAIRS: usize = 75;
+
+// The input type of channel k, from 2 on, stands k places behind it.
+pub const BEFORE_INPUTS: usize = AT_INPUTS - 2;
+
+// The pairs of channels 2 to 6.
+pub const AT_PAIR_2: usize = AT_PAIRS + 8;
+
+pub const AT_PAIR_3: usize = AT_PAIRS + 16;
+
+pub const AT_PAIR_4: usize = AT_PAIRS + 24;
+
+pub const AT_PAIR_5: usize = AT_PAIRS + 32;
+
+pub const AT_PAIR_6: usize = AT_PAIRS + 40;
+
+// Behind the length of the name, and behind that of the pending bytes.
+pub const AT_NAME_BYTES: usize = AT_NAME + 1;
+
+pub const AT_WAITING: usize = AT_PENDING + 1;
+
+pub const NAME_ROOM: usize = 15;
+
+pub const MODEL_ROOM: usize = 15;
+
+pub const PENDING_ROOM: usize = WAIT_MOST;
+
+pub const CHANNELS: u8 = 6;
+
+// Filter words are below it.
+pub const FILTERS: u32 = 64;
+
+pub const OPENED: u8 = 1;
+
+pub const UNLOCKED: u8 = 2;
+
+pub const SENDING: u8 = 4;
+
+pub const READING: u8 = 8;

@@ -1,0 +1,22 @@
+-- The sizes that a stream goes by.
+use Prim.Native.Nat.{ℕ, _+_}
+
+-- "Its size is 4 + n, at most 19": that of a frame, and of a reply
+abbrev pub frameMost : ℕ
+frameMost = 19
+
+-- "Waiting bytes (at most 18)"
+abbrev pub waitMost : ℕ
+waitMost = 18
+
+-- "bytes: input over 4,096" is refused
+abbrev pub inputMost : ℕ
+inputMost = 4096
+
+-- waiting bytes and input
+abbrev pub streamMost : ℕ
+streamMost = waitMost + inputMost
+
+-- waiting bytes and what a candidate that starts in them can reach of the input
+abbrev pub joinMost : ℕ
+joinMost = waitMost + frameMost
