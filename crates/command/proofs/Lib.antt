@@ -4,3 +4,4 @@ pub mod Secrecy
 pub mod Compare
 pub mod Keep
 pub mod Admitted
+pub mod Shared

@@ -1,9 +1,9 @@
 -- What a reading leaves in the bytes, by way of floats, is what the definitions say over patterns.
 use Prim.Native.Nat.{ℕ, zero, suc, _+_, _*_, _≤_, _<_}
-use mathlib.Core.Path.{_≡_, refl, sym, ap, ap₂, _∙_}
+use mathlib.Core.Path.{_≡_, refl, sym, ap, ap₂, subst, _∙_}
 use mathlib.Core.Bool.{Bool, true, false, _&&_, and-assoc, and-true}
 use mathlib.Core.List.{List, [], _∷_, _++_, map}
-use native.Mathlib.Nat.{add-zero}
+use native.Mathlib.Nat.{add-zero, add-assoc}
 use native.Mathlib.Omega.{arith}
 use lib.ListN.{length, getD, set, length-map}
 use lib.Seq.{sets}
@@ -11,13 +11,13 @@ use lib.Dec.{eqb}
 use lib.Bits.{bitOr}
 use borrow.Author.Tests.{eqb-true}
 use Rattle.wire.specs.Numbers.{Bytes, wordAt, bytes4}
-use Rattle.peak.specs.Pairs.{Pair, noPair, finite, seen, seenAll, allFinite, pairFits, pairsAt, pairBytes, pairsBytes}
+use Rattle.peak.specs.Pairs.{Pair, noPair, finite, seen, seenAll, allFinite, pairFits, pairAt, pairsAt, pairBytes, pairsBytes}
 use Rattle.peak.specs.Floats.{floatOf, bitsOf, peakOf}
 use Rattle.peak.specs.declared.Peak.{Peak}
 use Rattle.peak.proofs.Order.{bits-back, float-number, seen-is}
 use Rattle.peak.proofs.PairLaws.{both, fit}
 use Rattle.record.specs.Record.{Record, withFlags, withReading, withPairs}
-use Rattle.record.specs.Layout.{recordSize, channels, atFlags, atPairs, nibble, bytesOf, recordOf}
+use Rattle.record.specs.Layout.{recordSize, channels, atFlags, atPairs, nibble, bitOf, bytesOf, recordOf}
 use Rattle.record.specs.Form.{InRange}
 use Rattle.record.specs.Place.{Sound}
 use Rattle.record.specs.Reading.{readingOf}
@@ -25,7 +25,7 @@ use Rattle.record.proofs.Choices.{switch}
 use Rattle.record.proofs.Parts.{Words, word-lt, pairs-shift, elements, elements-all}
 use Rattle.record.proofs.Lens.{long, get-flags, set-flags}
 use Rattle.record.proofs.Reading.{reading-in}
-use Rattle.reading.specs.Decoded.{decodedOf, noPeak, Numbers, AllNumbers, seenPeak, seenPeaks, afterReading, peakBytes, peaksBytes, putBack}
+use Rattle.reading.specs.Decoded.{decodedAt, There, noPeak, Numbers, AllNumbers, seenPeak, seenPeaks, afterReading, peakBytes, peaksBytes, putBack}
 use Rattle.reading.specs.declared.Decoded.{Decoded}
 
 -- ---- stores behind stores
@@ -102,21 +102,46 @@ three-stored d at a b c =
     ap (λ (l : List ℕ). sets l (at + 16) (peakBytes c)) (sets-append d at (peakBytes a) (peakBytes b))
     ∙ sets-append d at (peakBytes a ++ peakBytes b) (peakBytes c)
 
-pub six-stored : (s : List ℕ) (p : List Peak) → length p ≡ channels
-    → sets (sets s 75 (peakBytes (nth p 0) ++ (peakBytes (nth p 1) ++ peakBytes (nth p 2)))) 99 (peakBytes (nth p 3) ++ (peakBytes (nth p 4) ++ peakBytes (nth p 5))) ≡ sets s atPairs (peaksBytes p)
-six-stored s p h =
-    sets-append s 75 (peakBytes (nth p 0) ++ (peakBytes (nth p 1) ++ peakBytes (nth p 2))) (peakBytes (nth p 3) ++ (peakBytes (nth p 4) ++ peakBytes (nth p 5)))
-    ∙ ap (λ (l : List Peak). sets s atPairs (peaksBytes l)) (elements-all noPeak channels p h)
+pub six-stored : (s : List ℕ) (at : ℕ) (p : List Peak) → length p ≡ channels
+    → sets (sets s at (peakBytes (nth p 0) ++ (peakBytes (nth p 1) ++ peakBytes (nth p 2)))) (at + 24) (peakBytes (nth p 3) ++ (peakBytes (nth p 4) ++ peakBytes (nth p 5))) ≡ sets s at (peaksBytes p)
+six-stored s at p h =
+    sets-append s at (peakBytes (nth p 0) ++ (peakBytes (nth p 1) ++ peakBytes (nth p 2))) (peakBytes (nth p 3) ++ (peakBytes (nth p 4) ++ peakBytes (nth p 5)))
+    ∙ ap (λ (l : List Peak). sets s at (peaksBytes l)) (elements-all noPeak channels p h)
+
+-- the pairs one by one, at the places that the code reads
+six-pairs : (s : List ℕ) (at : ℕ) → pairsAt channels s at ≡ pairAt s at ∷ pairAt s (at + 8) ∷ pairAt s (at + 16) ∷ pairAt s (at + 24) ∷ pairAt s (at + 32) ∷ pairAt s (at + 40) ∷ []
+six-pairs s at = simp add-assoc
+
+pub six-decoded : (s : List ℕ) (at : ℕ) → let peak : ℕ → Peak = λ k. peakOf (pairAt s k) in
+    record {
+      reading = bitOf (getD s atFlags 0) 8;
+      sending = bitOf (getD s atFlags 0) 4;
+      peaks = peak at ∷ peak (at + 8) ∷ peak (at + 16) ∷ peak (at + 24) ∷ peak (at + 32) ∷ peak (at + 40) ∷ [];
+    } ≡ decodedAt at s
+six-decoded s at = ap (λ (ps : List Pair). record { reading = bitOf (getD s atFlags 0) 8; sending = bitOf (getD s atFlags 0) 4; peaks = map peakOf ps }) (sym (six-pairs s at))
 
 -- ---- the record
 
 pub sound-long : (s : List ℕ) → Sound s → length s ≡ recordSize
 sound-long s h = ap length (h .same) ∙ long (recordOf s)
 
--- pair k is there, and finite
-pub pair-there : (s : List ℕ) → Sound s → (k : ℕ) → k < channels → (atPairs + 8 * k + 8 ≤ length s) × Finite (getD (pairsAt channels s atPairs) k noPair)
+-- pair k of those from a place on
+pair-at : (n : ℕ) (s : List ℕ) (at k : ℕ) → k < n → getD (pairsAt n s at) k noPair ≡ pairAt s (at + 8 * k)
+pair-at zero s at k h = absurd (let z : ⊥ = omega arith in z)
+pair-at (suc n) s at zero h = let e : at ≡ at + 8 * 0 = omega arith in ap (pairAt s) e
+pair-at (suc n) s at (suc k) h = let e : at + 8 + 8 * k ≡ at + 8 * suc k = omega arith in pair-at n s (at + 8) k (omega arith) ∙ ap (pairAt s) e
+
+-- the first at the place itself
+pub first-there : (at : ℕ) (s : List ℕ) → There at s → (finite (wordAt s at) ≡ true) × (finite (wordAt s (at + 4)) ≡ true)
+first-there at s t = subst (λ (j : ℕ). (finite (wordAt s j) ≡ true) × (finite (wordAt s (j + 4)) ≡ true)) (add-zero at) (t .numbers 0 (omega arith))
+
+pub there : (s : List ℕ) → Sound s → There atPairs s
 unfolding recordOf
-pair-there s h k l = (omega (arith, sound-long s h), fit-finite (recordOf s .flags .reading) (getD (pairsAt channels s atPairs) k noPair) (h .fit .pairs k l))
+there s h = record {
+  flags = omega (arith, sound-long s h);
+  pairs = omega (arith, sound-long s h);
+  numbers = λ k l. subst Finite (pair-at channels s atPairs k l) (fit-finite (recordOf s .flags .reading) (getD (pairsAt channels s atPairs) k noPair) (h .fit .pairs k l));
+}
 
 reading-bit : (a b c d : Bool) → bitOr (nibble a b c d) 8 ≡ nibble a b c true
 reading-bit a b c d = switch 4 (omega arith) (omega arith) true a b c d
@@ -151,7 +176,7 @@ module _ (r : Record) (sample : List ℕ) (i : InRange r) (b : Bytes sample) (f 
   unfolding readingOf withFlags withPairs
   part-numbers k h = rw peaks (peaks-numbers next next-fits k (rw (after .six) h))
 
-  part-taken : putBack (afterReading (part r) sample) (bytesOf r) ≡ bytesOf (readingOf r sample)
+  part-taken : putBack atPairs (afterReading (part r) sample) (bytesOf r) ≡ bytesOf (readingOf r sample)
   unfolding readingOf withFlags withPairs
   part-taken =
       let bytes : peaksBytes (map peakOf next) ≡ pairsBytes channels next 0 = peaks-back next (after .words) next-fits ∙ ap (λ (n : ℕ). pairsBytes n next 0) (after .six) in
@@ -160,10 +185,10 @@ module _ (r : Record) (sample : List ℕ) (i : InRange r) (b : Bytes sample) (f 
       ∙ set-pairs (withFlags r (withReading (r .flags) true)) next
 
 module _ (s sample : List ℕ) (h : Sound s) (b : Bytes sample) (f : allFinite channels sample 0 ≡ true) where
-  pub taken-numbers : AllNumbers (afterReading (decodedOf s) sample .peaks)
+  pub taken-numbers : AllNumbers (afterReading (decodedAt atPairs s) sample .peaks)
   unfolding recordOf
   taken-numbers = part-numbers (recordOf s) sample (h .fit) b f
 
-  pub taken : putBack (afterReading (decodedOf s) sample) s ≡ bytesOf (readingOf (recordOf s) sample)
+  pub taken : putBack atPairs (afterReading (decodedAt atPairs s) sample) s ≡ bytesOf (readingOf (recordOf s) sample)
   unfolding recordOf
-  taken = ap (putBack (afterReading (decodedOf s) sample)) (h .same) ∙ part-taken (recordOf s) sample (h .fit) b f
+  taken = ap (putBack atPairs (afterReading (decodedAt atPairs s) sample)) (h .same) ∙ part-taken (recordOf s) sample (h .fit) b f

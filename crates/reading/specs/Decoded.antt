@@ -1,21 +1,29 @@
 -- The part of a record that a reading goes by, as code holds it: two flags and pairs of floats. No promise of a call speaks of it.
-use Prim.Native.Nat.{ℕ, _+_, _<_}
+use Prim.Native.Nat.{ℕ, _+_, _*_, _≤_, _<_}
+use mathlib.Core.Path.{_≡_}
 use mathlib.Core.Bool.{Bool, true, false, not, cond}
 use mathlib.Core.List.{List, [], _∷_, _++_, map}
-use lib.ListN.{getD, set}
+use lib.ListN.{length, getD, set}
 use lib.Seq.{sets}
 use lib.Dec.{T}
 use lib.Bits.{bitOr}
 use lib.Ieee.{Float, nan, isNan}
 use Rattle.wire.specs.Numbers.{wordAt, bytes4}
-use Rattle.peak.specs.Pairs.{pairsAt}
+use Rattle.peak.specs.Pairs.{finite, pairsAt}
 use Rattle.peak.specs.Floats.{floatOf, bitsOf, peakOf, seenFloat}
 use Rattle.peak.specs.declared.Peak.{Peak}
-use Rattle.record.specs.Layout.{channels, atFlags, atPairs, bitOf}
+use Rattle.record.specs.Layout.{channels, atFlags, bitOf}
 use Rattle.reading.specs.declared.Decoded.{Decoded}
 
-abbrev pub decodedOf : List ℕ → Decoded
-decodedOf s = record { reading = bitOf (getD s atFlags 0) 8; sending = bitOf (getD s atFlags 0) 4; peaks = map peakOf (pairsAt channels s atPairs) }
+-- with the pairs at a place
+abbrev pub decodedAt : ℕ → List ℕ → Decoded
+decodedAt at s = record { reading = bitOf (getD s atFlags 0) 8; sending = bitOf (getD s atFlags 0) 4; peaks = map peakOf (pairsAt channels s at) }
+
+-- flags and pairs are there, and the pairs finite
+pub record There (at : ℕ) (s : List ℕ) : Type 0 where
+  pub flags : atFlags < length s
+  pub pairs : at + channels * 8 ≤ length s
+  pub numbers : (k : ℕ) → k < channels → (finite (wordAt s (at + 8 * k)) ≡ true) × (finite (wordAt s (at + 8 * k + 4)) ≡ true)
 
 -- what stands past the end of an array of pairs
 abbrev pub noPeak : Peak
@@ -48,6 +56,6 @@ abbrev pub peaksBytes : List Peak → List ℕ
 peaksBytes [] = []
 peaksBytes (p ∷ peaks) = peakBytes p ++ peaksBytes peaks
 
--- the bytes of a record with the reading flag and the pairs put back
-abbrev pub putBack : Decoded → List ℕ → List ℕ
-putBack d s = sets (set s atFlags (bitOr (getD s atFlags 0) (cond (d .reading) 8 0))) atPairs (peaksBytes (d .peaks))
+-- the bytes of a record with the reading flag and, at a place, the pairs put back
+abbrev pub putBack : ℕ → Decoded → List ℕ → List ℕ
+putBack at d s = sets (set s atFlags (bitOr (getD s atFlags 0) (cond (d .reading) 8 0))) at (peaksBytes (d .peaks))

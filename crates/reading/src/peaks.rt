@@ -2,16 +2,16 @@
 ghost use mathlib.Core.Path.{_≡_};
 ghost use mathlib.Core.Bool.{true, cond};
 ghost use mathlib.Core.List.{_++_};
-ghost use Prim.Native.Nat.{_+_, _*_, _≤_};
+ghost use Prim.Native.Nat.{_+_, _*_, _≤_, _<_};
 ghost use lib.ListN.{length};
 ghost use lib.Seq.{sets};
 ghost use Rattle.wire.specs.Numbers.{wordAt, bytes4};
 ghost use Rattle.peak.specs.Pairs.{finite, allFinite, pairAt};
 ghost use Rattle.peak.specs.Floats.{floatOf, peakOf};
-ghost use Rattle.record.specs.Layout.{recordSize, channels, bytesOf, recordOf};
+ghost use Rattle.record.specs.Layout.{channels, atFlags, bytesOf, recordOf};
 ghost use Rattle.record.specs.Place.{Sound};
 ghost use Rattle.record.specs.Reading.{readingOf};
-ghost use Rattle.reading.specs.Decoded.{decodedOf, Numbers, AllNumbers, seenPeak, afterReading, peakBytes, putBack};
+ghost use Rattle.reading.specs.Decoded.{decodedAt, There, Numbers, AllNumbers, seenPeak, afterReading, peakBytes, putBack};
 use crate::Decoded;
 use peak::Peak;
 use peak::bits_of;
@@ -20,11 +20,6 @@ use peak::float_of;
 use peak::is_finite;
 use peak::seen_next;
 use record::places::AT_FLAGS;
-use record::places::AT_PAIR_2;
-use record::places::AT_PAIR_3;
-use record::places::AT_PAIR_4;
-use record::places::AT_PAIR_5;
-use record::places::AT_PAIR_6;
 use record::places::AT_PAIRS;
 use record::places::READING;
 use wire::numbers::word_at;
@@ -59,16 +54,17 @@ fn peak_at(rec: &[u8], at: usize) -> Peak
     Peak { greatest, smallest }
 }
 
-fn decode(rec: &[u8]) -> Decoded
-    requires { ⌜ Sound (now rec) ⌝ }
-    ensures { λ r. ⌜ r ≡ decodedOf (now (rec .entry)) ⌝ }
+// The pairs from a place on.
+fn decode(rec: &[u8], at: usize) -> Decoded
+    requires { ⌜ There at (now rec) ⌝ }
+    ensures { λ r. ⌜ r ≡ decodedAt at (now (rec .entry)) ⌝ }
 {
-    let a = peak_at(rec, AT_PAIRS);
-    let b = peak_at(rec, AT_PAIR_2);
-    let c = peak_at(rec, AT_PAIR_3);
-    let d = peak_at(rec, AT_PAIR_4);
-    let e = peak_at(rec, AT_PAIR_5);
-    let f = peak_at(rec, AT_PAIR_6);
+    let a = peak_at(rec, at);
+    let b = peak_at(rec, at + 8);
+    let c = peak_at(rec, at + 16);
+    let d = peak_at(rec, at + 24);
+    let e = peak_at(rec, at + 32);
+    let f = peak_at(rec, at + 40);
     Decoded {
         reading: rec[AT_FLAGS] / 8 % 2 == 1,
         sending: rec[AT_FLAGS] / 4 % 2 == 1,
@@ -146,15 +142,16 @@ fn flag_of(reading: bool) -> u8
     if reading { READING } else { 0 }
 }
 
-fn put_back(rec: &mut [u8], d: Decoded)
-    requires { ⌜ length (now rec) ≡ recordSize ⌝ }
+// The reading flag, and the pairs from a place on.
+fn put_back(rec: &mut [u8], at: usize, d: Decoded)
+    requires { ⌜ (atFlags < length (now rec)) × (at + channels * 8 ≤ length (now rec)) ⌝ }
     requires { ⌜ AllNumbers (d .peaks) ⌝ }
-    ensures { λ _. ⌜ now (rec .exit) ≡ putBack d (now (rec .entry)) ⌝ }
+    ensures { λ _. ⌜ now (rec .exit) ≡ putBack at d (now (rec .entry)) ⌝ }
 {
     let p = d.peaks;
     rec[AT_FLAGS] |= flag_of(d.reading);
-    put_three(rec, AT_PAIRS, p[0], p[1], p[2]);
-    put_three(rec, AT_PAIR_4, p[3], p[4], p[5]);
+    put_three(rec, at, p[0], p[1], p[2]);
+    put_three(rec, at + 24, p[3], p[4], p[5]);
 }
 
 // Takes a reading of finite values, and returns whether measuring frames are sent.
@@ -164,8 +161,8 @@ pub fn take_reading(rec: &mut [u8], sample: &[u8]) -> bool
     requires { ⌜ allFinite channels (now sample) 0 ≡ true ⌝ }
     ensures { λ sending. ⌜ (sending ≡ recordOf (now (rec .entry)) .flags .sending) × (now (rec .exit) ≡ bytesOf (readingOf (recordOf (now (rec .entry))) (now (sample .entry)))) ⌝ }
 {
-    let was = decode(rec);
+    let was = decode(rec, AT_PAIRS);
     let sending = was.sending;
-    put_back(rec, after_reading(was, sample));
+    put_back(rec, AT_PAIRS, after_reading(was, sample));
     sending
 }

@@ -81,6 +81,7 @@ pub record Plan : Type 0 where
   pub opens : Bool
   pub parts : List Part
 
+-- "name length and 15 bytes", "model 15"
 abbrev pub nameRoom : ℕ
 nameRoom = 15
 
@@ -136,10 +137,11 @@ piece p s q = cond (has (p .parts) q) (bytesAt (width p q) s (place p q)) []
 
 -- ---- the layouts
 
+-- "length 00 7B; version 01; flags; tries 0..3; code 4; Classic power 2; LE step; mode; on/off; input types 5; outputs; interval; filter word 4; name length and 15 bytes; model 15; pending length and 18 bytes; six pairs greatest, smallest"
 abbrev pub boardParts : List Part
 boardParts = SizeBytes ∷ VersionByte ∷ FlagByte ∷ TriesByte ∷ CodeWord ∷ PowerHalf ∷ StepByte ∷ ModeByte ∷ OnOffByte ∷ InputBytes ∷ OutputByte ∷ IntervalByte ∷ FilterWord ∷ NamePart ∷ ModelPart ∷ PendingPart ∷ PairsPart ∷ []
 
--- the board's record
+-- the board's record: version 01, 18 pending bytes, six channels, filter bits 0 to 5
 abbrev pub plan1 : Plan
 plan1 = record { version = 1; room = waitMost; heads = serial; channels = 6; filters = 64; opens = true; parts = boardParts }
 
@@ -151,7 +153,7 @@ plan2 = record { version = 2; room = 19; heads = serial; channels = 6; filters =
 abbrev pub plan3 : Plan
 plan3 = record { version = 3; room = 19; heads = serial; channels = 6; filters = 64; opens = true; parts = boardParts ++ (CounterHalf ∷ []) }
 
--- "9n" alone
+-- amplifier commands alone, 9n
 unfoldable pub seatHeads : Heads
 seatHeads = fronted (λ b. cond (leb 0x90 b && leb b 0x9F) (Fixed (b % 16)) Bad) closed
 

@@ -45,17 +45,6 @@ pub const AT_PAIRS: usize = 75;
 // The input type of channel k, from 2 on, stands k places behind it.
 pub const BEFORE_INPUTS: usize = AT_INPUTS - 2;
 
-// The pairs of channels 2 to 6.
-pub const AT_PAIR_2: usize = AT_PAIRS + 8;
-
-pub const AT_PAIR_3: usize = AT_PAIRS + 16;
-
-pub const AT_PAIR_4: usize = AT_PAIRS + 24;
-
-pub const AT_PAIR_5: usize = AT_PAIRS + 32;
-
-pub const AT_PAIR_6: usize = AT_PAIRS + 40;
-
 // Behind the length of the name, and behind that of the pending bytes.
 pub const AT_NAME_BYTES: usize = AT_NAME + 1;
 

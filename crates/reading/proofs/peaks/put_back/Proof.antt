@@ -12,11 +12,11 @@ use Rattle.reading.proofs.peaks.put_back.Tie as tie
 six : (c : tie.Start) → length (c .args .d .peaks) ≡ 6
 six c = search (needs, length-mapped)
 
-slice-read-rec : tie.Need-slice-read-rec
-slice-read-rec c = search needs
-
 flag-of-requires : tie.Need-flag-of-requires
 flag-of-requires c κs = search needs
+
+slice-read-rec : tie.Need-slice-read-rec
+slice-read-rec c = search needs
 
 slice-write-rec : tie.Need-slice-write-rec
 slice-write-rec c = search needs
@@ -32,6 +32,9 @@ array-copy-out-put-three-3 c = search needs
 
 put-three-requires : tie.Need-put-three-requires
 put-three-requires c κs = let n = c .before .before .before .before .before .before .before .before .pre .1 in (simp length-set (omega arith), (n 0 (omega arith), n 1 (omega arith), n 2 (omega arith)))
+
+add-put-three : tie.Need-add-put-three
+add-put-three c = search needs
 
 array-copy-out-put-three-4 : tie.Need-array-copy-out-put-three-4
 array-copy-out-put-three-4 c = search needs
@@ -53,7 +56,7 @@ returns c =
     let z = c .before .before .before .before .before .before .before .before .before .before .before .before .before .before .before .before .before .before in
     let a = z .args in
     rw (c .before .before .put-three2 .ensures, c .before .before .before .before .before .before .before .before .before .put-three .ensures, c .before .before .before .before .before .before .before .before .before .before .before .before .before .before .before .flag-of .ensures .0)
-    (six-stored (set (a .rec .now) atFlags (bitOr (getD (a .rec .now) atFlags 0) (cond (a .d .reading) 8 0))) (a .d .peaks) (six z))
+    (six-stored (set (a .rec .now) atFlags (bitOr (getD (a .rec .now) atFlags 0) (cond (a .d .reading) 8 0))) (a .at) (a .d .peaks) (six z))
 
 pub put-back-spec : {M : Type 1} → statement M
 put-back-spec =
@@ -66,6 +69,7 @@ put-back-spec =
     array-copy-out-put-three-2
     array-copy-out-put-three-3
     put-three-requires
+    add-put-three
     array-copy-out-put-three-4
     array-copy-out-put-three-5
     array-copy-out-put-three-6
