@@ -1,5 +1,4 @@
 // Flags and tries of a record stored in its bytes, in every layout that has them at these places, one function for each change that a command can make. A flag is set or cleared by its bit, so that the byte keeps its other bits.
-ghost use mathlib.Core.Path.{_≡_};
 ghost use mathlib.Core.Bool.{true, false};
 ghost use Prim.Native.Nat.{_+_, _<_};
 ghost use lib.ListN.{length, getD};

@@ -7,12 +7,11 @@ use native.Mathlib.Nat.{add-zero, add-assoc}
 use native.Mathlib.Omega.{arith}
 use lib.ListN.{length, take, drop, length-append, length-drop, drop-of-length-le}
 use lib.Seq.{drop-drop}
-use Rattle.wire.specs.Numbers.{put}
 use Rattle.wire.specs.Frames.{look, Wait, Take, Tear}
 use Rattle.wire.specs.Serial.{serial}
 use Rattle.finder.specs.Finder.{Passed, Finds}
 use Rattle.wire.specs.Replies.{Reply, replyBytes, written}
-use Rattle.wire.specs.Run.{hunt, halt, ahead}
+use Rattle.wire.specs.Run.{halt, ahead}
 use Rattle.finder.specs.declared.Found.{Found}
 use Rattle.finder.specs.declared.Seen.the-variants.{Frame, Torn, Nothing}
 use Rattle.wire.proofs.CutLaws.{take-room, tear-room}

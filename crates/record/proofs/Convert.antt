@@ -1,16 +1,13 @@
 -- A record of one layout turned into a wider one: its bytes there are well formed and mean the same.
-use Prim.Native.Nat.{ℕ, _≤_}
-use mathlib.Core.Path.{_≡_, refl, sym, ap, _∙_}
-use mathlib.Core.Bool.{Bool, true, false, cond, not, _||_, false≢true}
+use Prim.Native.Nat.{ℕ}
+use mathlib.Core.Path.{_≡_, refl, _∙_}
+use mathlib.Core.Bool.{Bool, true, false, not, _||_, false≢true}
 use mathlib.Core.List.{List}
-use native.Mathlib.Omega.{arith}
 use Rattle.wire.specs.Numbers.{Bytes}
-use Rattle.wire.specs.Frames.{waits}
 use Rattle.record.specs.Record.{Record}
-use Rattle.record.specs.Layout.{PowerHalf, CounterHalf, has, Plan, plan1, plan2, plan3, bytesIn, recordIn}
+use Rattle.record.specs.Layout.{CounterHalf, has, Plan, plan1, plan2, plan3, bytesIn, recordIn}
 use Rattle.record.specs.Laid.{Laid, Wider}
 use Rattle.record.specs.Form.{Unless, wellIn, InRangeIn}
-use Rattle.record.proofs.Plans.{laid1, laid2, laid3}
 use Rattle.record.proofs.RoundTrip.{in-rangeIn, read-backIn, well-formedIn}
 
 uncounted : (A : Type 0) (a b : Bool) → (b || not a) ≡ true → Unless a A → Unless b A

@@ -1,5 +1,5 @@
 -- The place of the first fault, in any layout: there is none exactly in well-formed bytes, and no code moves it.
-use Prim.Native.Nat.{ℕ, zero, suc, _+_, _≤_}
+use Prim.Native.Nat.{ℕ, _+_}
 use mathlib.Core.Path.{_≡_, refl, sym, ap, ap₂, subst, _∙_}
 use mathlib.Core.Bool.{Bool, true, false, cond, _&&_, false≢true}
 use mathlib.Core.List.{List, [], _∷_, _++_}
@@ -11,9 +11,9 @@ use lib.Dec.{eqb}
 use borrow.Author.Tests.{eqb-true}
 use Rattle.wire.specs.Numbers.{bytesAt}
 use Rattle.wire.proofs.NumberLaws.{length-part, part-all}
-use Rattle.record.specs.Layout.{Part, FlagByte, CodeWord, same, has, distinct, sizeOf, placeOf, lay, Plan, width, place, planSize, piece}
+use Rattle.record.specs.Layout.{Part, FlagByte, CodeWord, same, has, lay, Plan, width, place, planSize, piece}
 use Rattle.record.specs.Laid.{Laid}
-use Rattle.record.specs.Form.{Field, field, allFine, testsOf, testsBy, readingBy, fieldsIn, wellIn, Fault, NoFault, FaultAt, firstFault, faultIn}
+use Rattle.record.specs.Form.{Field, field, allFine, testsOf, testsBy, readingBy, fieldsIn, wellIn, NoFault, FaultAt, firstFault, faultIn}
 use Rattle.record.proofs.Layouts.{same-is, has-first, has-later, upd, lay-part, lay-store, cut-lay}
 
 fault-by : (fs : List Field) → allFine fs ≡ true → firstFault fs ≡ NoFault

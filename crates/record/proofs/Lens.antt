@@ -1,18 +1,14 @@
 -- The same in the current version, in the words of the code: what is at a literal place holds by computing, the rest is the general law.
-use Prim.Native.Nat.{ℕ, _+_, _*_, _≤_, _<_}
-use mathlib.Core.Path.{_≡_, refl, sym, ap, _∙_}
-use mathlib.Core.Bool.{Bool}
-use mathlib.Core.List.{List}
+use Prim.Native.Nat.{ℕ, _+_, _*_, _<_}
+use mathlib.Core.Path.{_≡_, refl}
 use lib.ListN.{length, getD, set}
-use lib.Seq.{sets}
-use Rattle.wire.specs.Numbers.{word16, wordAt, bytes2, bytes4, bytesAt}
-use Rattle.wire.proofs.NumberLaws.{half-bytes, word-back}
+use Rattle.wire.specs.Numbers.{wordAt, bytes2, bytes4, bytesAt}
+use Rattle.wire.proofs.NumberLaws.{word-back}
 use Rattle.peak.specs.Pairs.{noPair, pairBytes}
-use Rattle.record.specs.Record.{Flags, Outputs, Record, withOutput, withPower, withStep, withMode, withOnOff, withInputs, withInterval, withName, withFlags, withSettings, withOutputs}
-use Rattle.record.specs.Layout.{current, recordSize, channels, atFlags, atTries, atCode, atPower, atStep, atMode, atOnOff, atInputs, atOutputs, atInterval, atFilter, atName, atPending, atPairs, flagsByte, outputsByte, bytesOf}
-use Rattle.record.proofs.Choices.{masked, switch}
+use Rattle.record.specs.Record.{Flags, Record, withFlags}
+use Rattle.record.specs.Layout.{current, recordSize, channels, atFlags, atTries, atCode, atPower, atFilter, atName, atPending, atPairs, flagsByte, bytesOf}
 use Rattle.record.proofs.Plans.{laid}
-use Rattle.record.proofs.Stores.{get-pairIn, set-inputIn}
+use Rattle.record.proofs.Stores.{get-pairIn}
 
 pub long : (r : Record) → length (bytesOf r) ≡ recordSize
 unfolding bytesOf

@@ -1,13 +1,13 @@
 -- The bytes of each part of a record and its value are the same, in any layout.
 use Prim.Native.Nat.{ℕ, zero, suc, _+_, _*_, _%_, _≤_, _<_}
-use mathlib.Core.Path.{_≡_, refl, sym, ap, ap₂, subst, subst⁻¹, fun-ext, _∙_}
+use mathlib.Core.Path.{_≡_, refl, sym, ap, ap₂, subst, subst⁻¹, _∙_}
 use mathlib.Core.Bool.{Bool, true, false, cond, not, _&&_, _||_, and-true, and-eq-true-iff, false≢true}
 use mathlib.Core.List.{List, [], _∷_, _++_}
-use native.Mathlib.Nat.{add-zero, zero-add, add-assoc, not-suc-le-zero, le-of-suc-le-suc}
+use native.Mathlib.Nat.{zero-add, add-assoc, not-suc-le-zero, le-of-suc-le-suc}
 use native.Mathlib.Omega.{arith}
-use lib.ListN.{length, getD, take, drop, replicate, length-append}
+use lib.ListN.{length, getD, take, drop}
 use lib.Seq.{length-take-le}
-use lib.Dec.{ltb, leb, eqb}
+use lib.Dec.{ltb, eqb}
 use borrow.Author.Tests.{lt-ltb, le-leb, eq-eqb, ltb-true, leb-true, eqb-true}
 use Rattle.wire.specs.Numbers.{Bytes, halfAt, wordAt, bytes2, bytes4, bytesAt}
 use Rattle.wire.specs.Ranges.{fits}
@@ -21,7 +21,7 @@ use Rattle.record.specs.Limits.{powerRange, stepRange, modeRange, onOffR
 use Rattle.record.specs.Layout.{Part, SizeBytes, VersionByte, FlagByte, TriesByte, CodeWord, PowerHalf, StepByte, ModeByte, OnOffByte, InputBytes, OutputByte, IntervalByte, FilterWord, NamePart, ModelPart, PendingPart, PairsPart, CounterHalf, has, Plan, width, place, planSize, flagsByte, outputsByte, bitOf, chunk, valueOf}
 use Rattle.record.specs.Form.{Field, field, allZero, several, allFine, flagsFit, testsOf, readingBy, Unless, Silent, InRangeIn}
 use Rattle.record.proofs.Choices.{nibble-below, nibble-back, bits-back, even-is}
-use Rattle.record.proofs.Parts.{Words, shift, part-drop, word-lt, words-lt, half-at, word-at, part-back, rest-zero, pad-take, cut-cut, cut-bytes, cut-le, cut-back, cut-behind, pad-cut, pair-part, pair-back, pairs-part, pairs-shift, elements-all}
+use Rattle.record.proofs.Parts.{Words, shift, part-drop, word-lt, words-lt, half-at, word-at, part-back, rest-zero, pad-take, cut-cut, cut-bytes, cut-le, cut-back, cut-behind, pad-cut, pair-part, pair-back, pairs-part, pairs-shift}
 use Rattle.record.specs.Laid.{each, Laid, coreParts, radioParts}
 use Rattle.record.proofs.Layouts.{part-part}
 

@@ -1,13 +1,10 @@
 -- Each layout meets what is asked of it, by computing.
-use Prim.Native.Nat.{ℕ, _+_, _%_, _≤_, _<_}
-use mathlib.Core.Path.{_≡_, refl, ap, _∙_}
+use Prim.Native.Nat.{ℕ, _+_, _%_, _≤_}
+use mathlib.Core.Path.{_≡_, refl}
 use mathlib.Core.Bool.{Bool, true, false, cond, _&&_}
-use mathlib.Core.List.{List, [], _∷_}
 use native.Mathlib.Omega.{arith}
-use lib.ListN.{length, getD}
 use lib.Dec.{leb}
-use Rattle.wire.specs.Frames.{waits}
-use Rattle.wire.specs.Serial.{Head, Fixed, Bad, closed}
+use Rattle.wire.specs.Serial.{Fixed, Bad, closed}
 use Rattle.wire.proofs.CutLaws.{Under, waits-short}
 use Rattle.wire.proofs.SerialLaws.{fronted-under, pending-short}
 use Rattle.record.specs.Layout.{current, plan1, plan2, plan3, seatHeads, seat}

@@ -11,7 +11,7 @@ use borrow.Author.Tests.{eq-eqb, eqb-true}
 use Rattle.wire.specs.Numbers.{Bytes, bytesAt}
 use Rattle.wire.proofs.NumberLaws.{length-part, part-all, bytes-part}
 use Rattle.record.specs.Record.{Record}
-use Rattle.record.specs.Layout.{Part, FlagByte, same, has, Plan, current, width, place, planSize, piece, lay, chunk, valueOf, bytesIn, recordIn, bytesOf, recordOf}
+use Rattle.record.specs.Layout.{Part, FlagByte, same, has, Plan, current, width, place, planSize, piece, chunk, valueOf, bytesIn, recordIn, bytesOf, recordOf}
 use Rattle.record.specs.Form.{Field, allFine, testsOf, testsBy, readingBy, fieldsIn, wellIn, wellFormed, InRangeIn, InRange}
 use Rattle.record.proofs.Choices.{bits-back}
 use Rattle.record.proofs.Layouts.{has-first, has-later, same-is, lay-same, lay-long, lay-part, cut-lay}

@@ -1,8 +1,8 @@
 -- What stands at the place of a part is a field, and a store there is a change of that field, in any layout that has the part.
-use Prim.Native.Nat.{ℕ, zero, suc, _+_, _-_, _*_, _≤_, _<_}
+use Prim.Native.Nat.{ℕ, zero, suc, _+_, _*_, _≤_, _<_}
 use mathlib.Core.Path.{_≡_, refl, sym, ap, ap₂, _∙_}
 use mathlib.Core.Bool.{Bool, true, cond}
-use mathlib.Core.List.{List, [], _∷_, _++_}
+use mathlib.Core.List.{List, [], _∷_}
 use native.Mathlib.Nat.{add-zero, zero-add, add-suc}
 use native.Mathlib.Numerals.{add-one}
 use native.Mathlib.Omega.{arith}
@@ -11,9 +11,9 @@ use lib.Seq.{sets}
 use lib.Dec.{eqb}
 use Rattle.wire.specs.Numbers.{bytes2, bytes4, bytesAt}
 use Rattle.wire.proofs.NumberLaws.{length-part, part-all}
-use Rattle.peak.specs.Pairs.{Pair, noPair, pairBytes, pairsBytes}
+use Rattle.peak.specs.Pairs.{Pair, noPair, pairBytes}
 use Rattle.record.specs.Record.{Flags, Record, withOutput, withPower, withStep, withMode, withOnOff, withInputs, withInterval, withFilter, withName, withFlags, withTries, withCode, withSettings, withOutputs, withModel, withPending, withPairs, withCounter}
-use Rattle.record.specs.Layout.{Part, SizeBytes, VersionByte, FlagByte, TriesByte, CodeWord, PowerHalf, StepByte, ModeByte, OnOffByte, InputBytes, OutputByte, IntervalByte, FilterWord, NamePart, ModelPart, PendingPart, PairsPart, CounterHalf, allParts, has, Plan, nameRoom, width, place, lay, flagsByte, outputsByte, chunk, bytesIn}
+use Rattle.record.specs.Layout.{Part, FlagByte, TriesByte, CodeWord, PowerHalf, StepByte, ModeByte, OnOffByte, InputBytes, OutputByte, IntervalByte, FilterWord, NamePart, ModelPart, PendingPart, PairsPart, CounterHalf, allParts, has, Plan, nameRoom, width, place, flagsByte, outputsByte, chunk, bytesIn}
 use Rattle.record.proofs.Choices.{masked, switch}
 use Rattle.record.proofs.Parts.{part-at, sets-cons, pairs-part, pairs-set}
 use Rattle.record.specs.Laid.{each, Laid, coreParts}

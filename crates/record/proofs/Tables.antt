@@ -1,7 +1,6 @@
 -- Each layout has the places and sizes of its table, by computing: two parts of one width that changed places would be seen.
-use Prim.Native.Nat.{ℕ}
 use mathlib.Core.Path.{_≡_, refl}
-use mathlib.Core.List.{List, [], _∷_}
+use mathlib.Core.List.{[], _∷_}
 use Rattle.record.specs.Layout.{planSize, plan1, plan2, plan3, seat}
 use Rattle.record.specs.Places.{rowsOf, board1, board2, board3, seatRows}
 

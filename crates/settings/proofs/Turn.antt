@@ -1,6 +1,6 @@
 -- A store in the bytes of a record is the change of its field, in the words of the code that stores.
 use Prim.Native.Nat.{ℕ, zero, suc, _+_, _-_, _*_, _%_, _^_, _≤_}
-use mathlib.Core.Path.{_≡_, refl, sym, ap, subst, _∙_}
+use mathlib.Core.Path.{_≡_, refl, sym, ap, _∙_}
 use mathlib.Core.Bool.{true, false}
 use mathlib.Core.List.{List, [], _∷_}
 use native.Mathlib.Nat.{not-suc-le-zero}
@@ -11,7 +11,7 @@ use lib.Seq.{sets}
 use lib.Dec.{leb, eqb}
 use lib.Bits.{bitAnd, bitOr}
 use borrow.Author.Tests.{eq-eqb, ne-eqb, eqb-true, leb-true}
-use Rattle.wire.specs.Numbers.{Bytes, halfAt, wordAt, bytes2, bytes4}
+use Rattle.wire.specs.Numbers.{Bytes, halfAt, wordAt}
 use Rattle.wire.proofs.NumberLaws.{half-bytes, word-bytes}
 use Rattle.record.specs.Record.{withOutput, withPower, withStep, withMode, withOnOff, withInputs, withInterval, withFilter, withSettings, withOutputs}
 use Rattle.record.specs.Layout.{PowerHalf, StepByte, ModeByte, OnOffByte, InputBytes, OutputByte, IntervalByte, FilterWord, place, bytesIn, atPower, atStep, atMode, atOnOff, atInputs, atOutputs, atInterval}

@@ -1,6 +1,6 @@
 -- Laws of a hunt, for any heads and any board: each decision as an equation, packets, and two boards that agree.
 use Prim.Native.Nat.{ℕ, _+_}
-use mathlib.Core.Path.{_≡_, refl, sym, ap, ap₂, _∙_}
+use mathlib.Core.Path.{_≡_, refl, sym, ap₂, _∙_}
 use mathlib.Core.List.{List, [], _∷_, _++_, append-assoc}
 use native.Mathlib.Nat.{zero-add, add-assoc}
 use lib.ListN.{getD, take, drop}

@@ -3,8 +3,6 @@ use native.Mathlib.Omega.{arith}
 use borrow.Author.Needs.{needs}
 use Rattle.finder.proofs.announced_by.Statement.{statement}
 use Rattle.finder.proofs.announced_by.Tie as tie
-use Rattle.finder.proofs.announced_by.Reads as reads
-use Rattle.finder.proofs.announced_by.Lts as lts
 
 returns : tie.Need-returns
 returns c = low-none (c .before .args .b) (c .if1 .taken)

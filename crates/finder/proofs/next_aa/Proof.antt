@@ -5,9 +5,6 @@ use Prim.Native.Nat.{_-_, _≤_}
 use mathlib.Core.Logic.{inl, inr}
 use Rattle.finder.proofs.next_aa.Statement.{statement}
 use Rattle.finder.proofs.next_aa.Tie as tie
-use Rattle.finder.proofs.next_aa.Reads as reads
-use Rattle.finder.proofs.next_aa.Lts as lts
-use Rattle.finder.proofs.leap.Reads as leap-reads
 
 abbrev Inv-loop : tie.InvT-loop
 Inv-loop s from until at₀ at = Passed s from at × (at ≤ until)

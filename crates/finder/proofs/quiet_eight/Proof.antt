@@ -4,8 +4,6 @@ use Rattle.finder.specs.Finder.{quiet}
 use borrow.Author.Needs.{needs}
 use Rattle.finder.proofs.quiet_eight.Statement.{statement}
 use Rattle.finder.proofs.quiet_eight.Tie as tie
-use Rattle.finder.proofs.quiet_eight.Reads as reads
-use Rattle.finder.proofs.quiet_eight.Lts as lts
 
 shared-slice-read-result : tie.Need-shared-slice-read-result
 shared-slice-read-result c = search needs
