@@ -1,4 +1,4 @@
--- The data of a reply in a buffer.
+-- Inner contract: the data of a reply in a buffer.
 use Prim.Native.Nat.{ℕ, _≤_}
 use mathlib.Core.Path.{_≡_}
 use mathlib.Core.List.{List}

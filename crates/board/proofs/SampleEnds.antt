@@ -2,8 +2,8 @@
 use Prim.Native.Nat.{ℕ, _≤_, _<_}
 use mathlib.Core.Path.{_≡_, refl, _∙_}
 use mathlib.Core.Bool.{true, false}
-use mathlib.Core.List.{List}
-use lib.ListN.{length}
+use mathlib.Core.List.{List, [], _∷_}
+use lib.ListN.{length, take}
 use borrow.Author.Tests.{eq-eqb, ne-eqb, lt-ltb, le-ltb}
 use Rattle.wire.specs.Numbers.{put}
 use Rattle.wire.proofs.PutLaws.{put-nil}
@@ -47,3 +47,7 @@ module _ (s sample o : List ℕ) (a : Answer) where
           sent h p q e =
               left (samplesCall s sample o) (done (readingOf (recordOf s) sample) (measured channels sample) 0 o)
               (samples-by s sample o ∙ rw (good, eq-eqb (length sample) sampleSize long, le-ltb (length o) frameSize room, finite, h) refl) a t p e kept q
+
+-- "24 bytes", "28 bytes", "AA 15 B0"
+pub six-channels : (sampleSize ≡ 24) × (frameSize ≡ 28) × ((sample : List ℕ) → take 3 (measured channels sample) ≡ 0xAA ∷ 0x15 ∷ 0xB0 ∷ [])
+six-channels = (refl, refl, λ sample. refl)

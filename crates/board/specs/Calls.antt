@@ -63,7 +63,7 @@ sampleSize = 4 * channels
 abbrev pub frameSize : ℕ
 frameSize = 4 + sampleSize
 
--- a measuring frame of n channels. "If sending is on, the output gets AA 15 B0, the 24 bytes, 85 (28 bytes); else nothing."
+-- a measuring frame of n channels; `six-channels` of `proofs/SampleEnds` shows it at six. "If sending is on, the output gets AA 15 B0, the 24 bytes, 85 (28 bytes); else nothing."
 abbrev pub measured : ℕ → List ℕ → List ℕ
 measured n sample = 0xAA ∷ (0x0F + n) ∷ 0xB0 ∷ bytesAt (4 * n) sample 0 ++ (0x85 ∷ [])
 

@@ -11,6 +11,7 @@ use record::Form;
 use record::places::AT_PENDING;
 use wire::sizes::INPUT_MOST;
 
+// Carries out every whole frame of the pending bytes and the input; what waits becomes the new pending bytes.
 #[no_mangle]
 pub extern "C" fn board_bytes(rec: &mut [u8], input: &[u8], out: &mut [u8]) -> Answer
     ensures { λ a. ⌜ Leaves (bytesCall (now (rec .entry)) (now (input .entry)) (now (out .entry))) a (now (rec .exit)) (now (out .exit)) ⌝ }

@@ -8,6 +8,7 @@ use call::ended;
 use parts::fresh::write_factory;
 use record::places::RECORD_SIZE;
 
+// Writes a new record over any bytes of the right length.
 #[no_mangle]
 pub extern "C" fn board_factory(rec: &mut [u8]) -> Answer
     ensures { λ a. ⌜ Leaves (factoryCall (now (rec .entry))) a (now (rec .exit)) [] ⌝ }

@@ -9,6 +9,7 @@ use form::form_of;
 use parts::fresh::switch_on;
 use record::Form;
 
+// Closes, locks, gives new tries, switches outputs off and sending on, drops what waited and was measured; the rest stays.
 #[no_mangle]
 pub extern "C" fn board_power_on(rec: &mut [u8]) -> Answer
     ensures { λ a. ⌜ Leaves (powerOnCall (now (rec .entry))) a (now (rec .exit)) [] ⌝ }

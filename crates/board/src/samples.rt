@@ -61,6 +61,7 @@ fn put_frame(out: &mut [u8], sample: &[u8])
     put_in(out, 0, &frame);
 }
 
+// Takes a reading into the pairs and, with sending on, writes a measuring frame.
 #[no_mangle]
 pub extern "C" fn board_samples(rec: &mut [u8], sample: &[u8], out: &mut [u8]) -> Answer
     ensures { λ a. ⌜ Leaves (samplesCall (now (rec .entry)) (now (sample .entry)) (now (out .entry))) a (now (rec .exit)) (now (out .exit)) ⌝ }

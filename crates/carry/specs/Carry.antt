@@ -1,4 +1,4 @@
--- What carrying out one command leaves in the record's bytes and in the output.
+-- Inner contract: what carrying out one command leaves in the record's bytes and in the output.
 use Prim.Native.Nat.{ℕ, _+_, _≤_}
 use mathlib.Core.Path.{_≡_}
 use mathlib.Core.List.{List}

@@ -1,4 +1,4 @@
--- The refusals, in their order: the first that applies is the reply.
+-- The refusals, in their order: the first that applies is the reply. A frame goes through `byNumber`, `byCount`, `byAccess` and `byRange`; each stands above the one that asks it.
 use Prim.Native.Nat.{ℕ}
 use mathlib.Core.Bool.{cond}
 use mathlib.Core.List.{List}
@@ -33,12 +33,21 @@ statusOf BadCode = 0x62
 statusOf TooBig = 0x54
 statusOf TooSmall = 0x55
 
--- "the first cause of this list that applies and no later one looked at"
+-- "the first cause of this list that applies and no later one looked at":
+-- 1. a BT121 command other than E0 with configuration mode closed
+-- 2. any amplifier command with it open
+-- 3. 1C while locked
+-- 4. 19 with three wrong tries used
+-- 5. 19 with a wrong code
 unfoldable pub accessOf : Need → Record → List ℕ → Access
 accessOf Nothing r p = Given
+-- 1
 accessOf Opened r p = cond (r .flags .opened) Given Missing
+-- 2
 accessOf Closed r p = cond (r .flags .opened) Missing Given
+-- 2, 3
 accessOf Unlocked r p = cond (r .flags .opened) Missing (cond (r .flags .unlocked) Given Missing)
+-- 2, 4, 5
 accessOf Code r p = cond (r .flags .opened) Missing (cond (leb 3 (r .tries)) Missing (cond (eqb (wordAt p 0) (r .code)) Given WrongCode))
 
 -- 54, 55

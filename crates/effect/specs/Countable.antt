@@ -1,4 +1,4 @@
--- A try that can be counted.
+-- Inner contract: a try that can be counted.
 use Prim.Native.Nat.{ℕ, _<_}
 use mathlib.Core.Path.{_≡_}
 use mathlib.Core.List.{List}

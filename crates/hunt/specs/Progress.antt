@@ -1,4 +1,4 @@
--- What the hunting code has done so far: with what is left it gives the whole.
+-- Inner contract: what the hunting code has done so far; with what is left it gives the whole.
 use Prim.Native.Nat.{ℕ, _+_, _-_, _≤_}
 use mathlib.Core.Path.{_≡_}
 use mathlib.Core.Logic.{_⊎_}

@@ -1,4 +1,4 @@
--- What the checks of the code hand on beside the definitions of the judge.
+-- Inner contract: what the checks of the code hand on beside the definitions of the judge.
 use Prim.Native.Nat.{ℕ}
 use Rattle.wire.specs.declared.Range.{Range}
 use Rattle.wire.specs.declared.Range.the-variants.{Fits, Big, Small}

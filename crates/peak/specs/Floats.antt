@@ -1,4 +1,4 @@
--- The floats that patterns stand for: what the code works on. No promise of a call speaks of them.
+-- Inner contract: the floats that patterns stand for, which is what the code works on. No promise of a call speaks of them.
 use Prim.Native.Nat.{ℕ}
 use mathlib.Core.Bool.{cond}
 use lib.Ieee.{Float, binary32, lt, ofBits, toBits}

@@ -1,4 +1,4 @@
--- The part of a record that a reading goes by, as code holds it: two flags and pairs of floats. No promise of a call speaks of it.
+-- Inner contract: the part of a record that a reading goes by, as code holds it: two flags and pairs of floats. No promise of a call speaks of it.
 use Prim.Native.Nat.{ℕ, _+_, _*_, _≤_, _<_}
 use mathlib.Core.Path.{_≡_}
 use mathlib.Core.Bool.{Bool, true, false, not, cond}

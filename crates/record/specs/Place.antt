@@ -1,4 +1,4 @@
--- What code does to a record in place: its bytes are those of a value, before and after.
+-- Inner contract: what code does to a record in place; its bytes are those of a value, before and after.
 use Prim.Native.Nat.{ℕ}
 use mathlib.Core.Path.{_≡_}
 use mathlib.Core.Bool.{true}
