@@ -6,12 +6,12 @@ use native.Mathlib.Omega.{arith}
 use lib.ListN.{length, length-append}
 use Rattle.wire.specs.Sizes.{frameMost, streamMost}
 use Rattle.wire.specs.Numbers.{Bytes}
-use Rattle.wire.specs.Frames.{Piece, Whole, Broken, cut}
+use Rattle.wire.specs.Frames.{Piece, Whole, Broken, sizes, All, cut}
 use Rattle.wire.specs.Serial.{serial}
 use Rattle.wire.specs.Replies.{written}
 use Rattle.wire.specs.Run.{runs, hunt}
 use Rattle.wire.proofs.NumberLaws.{bytes-append}
-use Rattle.wire.proofs.CutLaws.{All, sizes, frames, conserved}
+use Rattle.wire.proofs.CutLaws.{frames, conserved}
 use Rattle.wire.proofs.SerialLaws.{Fair, pieces-fair}
 use Rattle.wire.proofs.ReplyLaws.{reply-bounds, length-none, length-cons}
 use Rattle.record.specs.Record.{Record}

@@ -10,7 +10,7 @@ use lib.Seq.{take-append-le, length-take-le}
 use lib.Dec.{leb, eqb}
 use borrow.Author.Tests.{leb-false, leb-true, le-leb, eqb-true}
 use Rattle.wire.specs.Numbers.{Bytes}
-use Rattle.wire.specs.Frames.{Size, NoHead, NeedMore, Of, Heads, Look, Skip, Wait, Take, Tear, settle, weigh, look, Piece, Whole, Broken, Cut, stop, skipOne, carryOut, tearOne, onward, cutFrom, cut, isWait, waits}
+use Rattle.wire.specs.Frames.{Size, NoHead, NeedMore, Of, Heads, Look, Skip, Wait, Take, Tear, settle, weigh, look, Piece, Whole, Broken, sizes, All, Cut, stop, skipOne, carryOut, tearOne, onward, cutFrom, cut, isWait, waits}
 
 -- a size once said does not change when more bytes follow
 pub record Steady (h : Heads) : Type 0 where
@@ -22,22 +22,11 @@ pub record Under (h : Heads) (bound : ℕ) : Type 0 where
   pub early : (l : List ℕ) → h .size l ≡ NeedMore → length l < bound
   pub some : 0 < bound
 
--- the bytes of the frames carried out
-unfoldable pub sizes : List Piece → ℕ
-sizes [] = 0
-sizes (Whole f ∷ pieces) = length f + sizes pieces
-sizes (Broken head ∷ pieces) = sizes pieces
-
 -- how many frames
 unfoldable pub frames : List Piece → ℕ
 frames [] = 0
 frames (Whole f ∷ pieces) = 1 + frames pieces
 frames (Broken head ∷ pieces) = frames pieces
-
--- a property of every piece
-unfoldable pub All : (Piece → Type 0) → List Piece → Type 0
-All P [] = Unit {0}
-All P (p ∷ pieces) = P p × All P pieces
 
 -- a cut followed by another
 abbrev pub andThen : Cut → Cut → Cut

@@ -4,9 +4,9 @@ use mathlib.Core.Path.{_≡_, refl, sym, ap₂, _∙_}
 use mathlib.Core.List.{List, [], _∷_, _++_, append-assoc}
 use native.Mathlib.Nat.{zero-add, add-assoc}
 use lib.ListN.{getD, take, drop}
-use Rattle.wire.specs.Frames.{Heads, Wait, Take, Tear, look, Piece, Whole, Broken, cut, skips}
+use Rattle.wire.specs.Frames.{Heads, Wait, Take, Tear, look, Piece, Whole, Broken, All, cut, skips}
 use Rattle.wire.specs.Run.{Run, runs, Hunted, hunt, halt, ahead}
-use Rattle.wire.proofs.CutLaws.{Steady, All, cut-wait, cut-take, cut-tear, packets}
+use Rattle.wire.proofs.CutLaws.{Steady, cut-wait, cut-take, cut-tear, packets}
 
 module _ (S A : Type 0) where
   pub ahead-none : (h : Hunted S A) → ahead [] 0 h ≡ h

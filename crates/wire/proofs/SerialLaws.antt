@@ -8,7 +8,7 @@ use lib.ListN.{length, getD, take, drop, length-append, List·getD-append}
 use lib.Seq.{getD-take, length-take-le}
 use lib.Dec.{ltb, leb, eqb}
 use borrow.Author.Tests.{ltb-true, ltb-false, lt-ltb, le-ltb, leb-true, leb-false, eq-eqb, ne-eqb}
-use Rattle.wire.specs.Frames.{NeedMore, Of, Heads, Take, look, Piece, Whole, Broken, cut, isWait, waits}
+use Rattle.wire.specs.Frames.{NeedMore, Of, Heads, Take, look, Piece, Whole, Broken, All, cut, isWait, waits}
 use Rattle.wire.specs.Numbers.{Bytes}
 use Rattle.wire.specs.Serial.{Head, Bad, Fixed, front, fronted, isHead, serialHead, closed, serial, sixLines, headOf}
 use Rattle.wire.proofs.NumberLaws.{bytes-take, bytes-drop}
@@ -93,7 +93,7 @@ fair-whole l b k n e =
     let t = headed-by (eqb (getD (drop k l) 0 0) 0xAA) (ltb 1 (length (drop k l))) (isHead (getD (drop k l) 1 0)) (getD (drop k l) 1 0 % 16) n (r .1) in
     (omega arith, omega arith, rw (getD-take (4 + n) (drop k l) 1 0 (omega arith)) t, bytes-take (4 + n) (drop k l) (bytes-drop k l b))
 
-pub pieces-fair : (l : List ℕ) → Bytes l → cuts.All Fair (cut serial l .pieces)
+pub pieces-fair : (l : List ℕ) → Bytes l → All Fair (cut serial l .pieces)
 pieces-fair l b = cuts.all-pieces serial Fair l (fair-whole l b) (λ k e. tt)
 
 -- ---- the six lines

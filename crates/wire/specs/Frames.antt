@@ -42,6 +42,17 @@ pub data Piece : Type 0 where
   Whole : List ℕ → Piece
   Broken : ℕ → Piece
 
+-- how many bytes of a stream its frames take: each frame's own, and none for a broken head, whose AA is skipped
+unfoldable pub sizes : List Piece → ℕ
+sizes [] = 0
+sizes (Whole f ∷ pieces) = length f + sizes pieces
+sizes (Broken head ∷ pieces) = sizes pieces
+
+-- every piece of a list has a property
+unfoldable pub All : (Piece → Type 0) → List Piece → Type 0
+All P [] = Unit {0}
+All P (p ∷ pieces) = P p × All P pieces
+
 pub record Cut : Type 0 where
   pub pieces : List Piece
   pub skipped : ℕ

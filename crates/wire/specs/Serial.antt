@@ -36,13 +36,20 @@ closed f = eqb (getD f (length f - 1) 0) 0x85
 unfoldable pub serial : Heads
 serial = fronted serialHead closed
 
--- the six lines of the hunt: is the first byte AA, is there a second, is it a head, are 4 + n bytes present, is the last 85
+-- The six lines of the hunt, as the page has them: is the first byte AA, is there a second, is it a head, are 4 + n bytes
+-- present, is the last of them 85. That `look serial` is these lines is `look-lines` of wire/proofs/SerialLaws.
 abbrev pub sixLines : Bool → Bool → Bool → Bool → Bool → ℕ → Look
+-- "A byte other than AA is skipped."
 sixLines false second headed present ended n = Skip
+-- "AA with nothing after it waits."
 sixLines true false headed present ended n = Wait
+-- "AA followed by a byte that is no 9n or An: the AA is skipped."
 sixLines true true false present ended n = Skip
+-- "A good head with fewer than 4 + n bytes present waits."
 sixLines true true true false ended n = Wait
+-- "All present and the last is 85: the frame is carried out and replied to, and the hunt goes on behind it."
 sixLines true true true true true n = Take n
+-- "All present and the last isn't 85: the AA is skipped without a reply, and the hunt goes on at the byte after that AA."
 sixLines true true true true false n = Tear
 
 -- the parts of a whole frame
