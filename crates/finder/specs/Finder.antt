@@ -1,13 +1,14 @@
--- What the finder promises: the bytes that it passed are skipped, and what stands where it stopped.
-use Prim.Native.Nat.{ℕ, zero, suc, _+_, _-_, _≤_}
+-- What the finder promises, for any set of heads: the bytes that it passed are skipped, and what stands where it stopped.
+use Prim.Native.Nat.{ℕ, zero, suc, _+_, _≤_, _<_}
 use mathlib.Core.Path.{_≡_}
 use mathlib.Core.Logic.{_⊎_}
 use mathlib.Core.Bool.{Bool, true, not, _&&_}
 use mathlib.Core.List.{List}
-use lib.ListN.{length, getD, drop}
+use lib.ListN.{getD, drop}
 use lib.Dec.{eqb}
-use Rattle.wire.specs.Frames.{look, Wait, Take, Tear, skips, cut}
-use Rattle.wire.specs.Serial.{Head, Bad, Fixed, serialHead, serial}
+use Rattle.wire.specs.Frames.{Heads, look, Wait, Take, Tear, Passed}
+use Rattle.wire.specs.Serial.{Head, Bad, Fixed, lineHead, Noise}
+use Rattle.wire.specs.declared.Line.{Line}
 use Rattle.finder.specs.declared.Announced.{Announced}
 use Rattle.finder.specs.declared.Announced.the-variants.{Params, NoFrame}
 use Rattle.finder.specs.declared.Seen.{Seen}
@@ -19,31 +20,26 @@ abbrev pub announcedBy : Head → Announced
 announcedBy Bad = NoFrame
 announcedBy (Fixed n) = Params n
 
-abbrev pub announcedOf : ℕ → Announced
-announcedOf b = announcedBy (serialHead b)
+abbrev pub announcedOf : Line → ℕ → Announced
+announcedOf k b = announcedBy (lineHead k b)
 
 -- none of n bytes from a place on is AA
 unfoldable pub quiet : ℕ → List ℕ → ℕ → Bool
 quiet zero s at = true
 quiet (suc n) s at = quiet n s at && not (eqb (getD s (at + n) 0) 0xAA)
 
--- all bytes from one place up to another are skipped
-pub record Passed (l : List ℕ) (from at : ℕ) : Type 0 where
-  pub after : from ≤ at
-  pub inside : at ≤ length l
-  pub cuts : cut serial (drop from l) ≡ skips (at - from) (cut serial (drop at l))
-
 -- the next AA, or the end of the search
 pub record Reaches (l : List ℕ) (from until at : ℕ) : Type 0 where
-  pub passed : Passed l from at
+  pub noise : Noise l from at
   pub upTo : at ≤ until
   pub stops : (at ≡ until) ⊎ (getD l at 0 ≡ 0xAA)
 
-abbrev pub Shows : Seen → List ℕ → ℕ → ℕ → Type 0
-Shows (Frame n) l at until = look serial (drop at l) ≡ Take n
-Shows Torn l at until = look serial (drop at l) ≡ Tear
-Shows Nothing l at until = (until ≤ at) ⊎ (look serial (drop at l) ≡ Wait)
+-- what stands at the place: a frame, a broken head, or nothing, which is the end of the search or a candidate that waits
+abbrev pub Shows : Heads → Seen → List ℕ → ℕ → ℕ → Type 0
+Shows h (Frame n) l at until = (at < until) × (look h (drop at l) ≡ Take n)
+Shows h Torn l at until = (at < until) × (look h (drop at l) ≡ Tear)
+Shows h Nothing l at until = (at ≡ until) ⊎ ((at < until) × (look h (drop at l) ≡ Wait))
 
-pub record Finds (l : List ℕ) (from until : ℕ) (r : Found) : Type 0 where
-  pub passed : Passed l from (r .at)
-  pub shows : Shows (r .seen) l (r .at) until
+pub record Finds (h : Heads) (l : List ℕ) (from until : ℕ) (r : Found) : Type 0 where
+  pub passed : Passed h l from (r .at)
+  pub shows : Shows h (r .seen) l (r .at) until

@@ -1,10 +1,12 @@
-// The search for the next frame, broken head or waiting candidate in a stream: 9n and An.
+// The search for the next frame, broken head or waiting candidate in a stream, for the heads of a line.
 ghost use mathlib.Core.Logic.{_⊎_};
 ghost use mathlib.Core.Path.{_≡_};
 ghost use Prim.Native.Nat.{_+_, _≤_, _<_};
 ghost use lib.ListN.{length};
 ghost use Rattle.wire.specs.Sizes.{streamMost};
-ghost use Rattle.finder.specs.Finder.{announcedOf, quiet, Passed, Reaches, Finds};
+ghost use Rattle.wire.specs.Serial.{serialHead, headsOf, Noise};
+ghost use Rattle.finder.specs.Finder.{announcedBy, announcedOf, quiet, Reaches, Finds};
+use wire::Line;
 
 // What the byte behind an AA announces: a frame with so many parameters, or none.
 pub enum Announced {
@@ -24,8 +26,9 @@ pub struct Found {
     pub at: usize,
 }
 
-fn announced_by(b: u8) -> Announced
-    ensures { λ r. ⌜ r ≡ announcedOf b ⌝ }
+// The board's heads: 9n and An.
+fn board_announces(b: u8) -> Announced
+    ensures { λ r. ⌜ r ≡ announcedBy (serialHead b) ⌝ }
 {
     if b < 0x90 {
         return Announced::NoFrame;
@@ -34,6 +37,14 @@ fn announced_by(b: u8) -> Announced
         return Announced::NoFrame;
     }
     Announced::Params((b % 16) as usize)
+}
+
+fn announced_by(line: Line, b: u8) -> Announced
+    ensures { λ r. ⌜ r ≡ announcedOf line b ⌝ }
+{
+    match line {
+        Line::Board => board_announces(b),
+    }
 }
 
 // Whether none of eight bytes is AA.
@@ -54,7 +65,7 @@ fn quiet_eight(s: &[u8], at: usize) -> bool
 // Passes over noise, sixteen bytes a turn, as long as none of them is AA.
 fn leap(s: &[u8], from: usize, until: usize) -> usize
     requires { ⌜ (from ≤ until) × (until ≤ length (now s)) ⌝ }
-    ensures { λ r. ⌜ Passed (now (s .entry)) from r × (r ≤ until) ⌝ }
+    ensures { λ r. ⌜ Noise (now (s .entry)) from r × (r ≤ until) ⌝ }
 {
     let mut at = from;
     while 16 <= until - at {
@@ -97,9 +108,9 @@ fn lesser(a: usize, b: usize) -> usize
 }
 
 // Passes over bytes to skip, up to the next piece: a frame, a broken head, a candidate that waits, or `until`.
-pub fn find(s: &[u8], from: usize, until: usize) -> Found
+pub fn find(line: Line, s: &[u8], from: usize, until: usize) -> Found
     requires { ⌜ (from ≤ until) × (until ≤ length (now s)) × (length (now s) ≤ streamMost) ⌝ }
-    ensures { λ r. ⌜ Finds (now (s .entry)) from until r ⌝ }
+    ensures { λ r. ⌜ Finds (headsOf line) (now (s .entry)) from until r ⌝ }
 {
     let mut at = from;
     let mut seen = Seen::Nothing;
@@ -111,7 +122,7 @@ pub fn find(s: &[u8], from: usize, until: usize) -> Found
         if s.len() - at < 2 {
             break 'hunt;
         }
-        let Announced::Params(n) = announced_by(s[at + 1]) else {
+        let Announced::Params(n) = announced_by(line, s[at + 1]) else {
             at += 1;
             continue 'hunt;
         };

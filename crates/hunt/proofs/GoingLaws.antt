@@ -5,9 +5,8 @@ use mathlib.Core.List.{List}
 use lib.ListN.{length, take, drop}
 use mathlib.Core.Bool.{true}
 use Rattle.wire.specs.Numbers.{Bytes}
-use Rattle.wire.specs.Frames.{look, Take, Tear}
+use Rattle.wire.specs.Frames.{look, Take, Tear, Passed}
 use Rattle.wire.specs.Serial.{serial, isHead, headOf}
-use Rattle.finder.specs.Finder.{Passed}
 use Rattle.wire.proofs.SerialLaws.{fair-whole}
 use Rattle.record.specs.Record.{Record}
 use Rattle.record.specs.Layout.{recordOf}
@@ -29,7 +28,7 @@ module _ (l before : List ℕ) (start : ℕ) where
     pub going-kept : length kept ≡ 123
     going-kept = holds-long (g .board) kept (g .held)
 
-    pub going-pass : (to : ℕ) → Passed l at to → Going r l before start to (skipped + (to - at)) wrote kept out
+    pub going-pass : (to : ℕ) → Passed serial l at to → Going r l before start to (skipped + (to - at)) wrote kept out
     going-pass to p = record { board = g .board; held = g .held; sofar = sofar-pass r l before start (g .board) at skipped wrote out (g .sofar) to p }
 
     pub going-tear : look serial (drop at l) ≡ Tear → Going r l before start (at + 1) (skipped + 1) wrote kept out

@@ -7,14 +7,13 @@ use native.Mathlib.Nat.{add-zero, add-assoc}
 use native.Mathlib.Omega.{arith}
 use lib.ListN.{length, take, drop, length-append, length-drop, drop-of-length-le}
 use lib.Seq.{drop-drop}
-use Rattle.wire.specs.Frames.{look, Wait, Take, Tear}
+use Rattle.wire.specs.Numbers.{put}
+use Rattle.wire.specs.Frames.{look, Wait, Take, Tear, Passed}
 use Rattle.wire.specs.Serial.{serial}
-use Rattle.finder.specs.Finder.{Passed, Finds}
 use Rattle.wire.specs.Replies.{Reply, replyBytes, written}
-use Rattle.wire.specs.Run.{halt, ahead}
-use Rattle.finder.specs.declared.Found.{Found}
-use Rattle.finder.specs.declared.Seen.the-variants.{Frame, Torn, Nothing}
+use Rattle.wire.specs.Run.{hunt, halt, ahead}
 use Rattle.wire.proofs.CutLaws.{take-room, tear-room}
+use Rattle.wire.proofs.Stretches.{passed-cuts}
 use Rattle.wire.proofs.PutLaws.{put-nil, put-put, length-put}
 use Rattle.wire.proofs.ReplyLaws.{written-append, written-one}
 use Rattle.wire.proofs.RunLaws.{ahead-none, ahead-ahead, hunt-nil, hunt-wait, hunt-pass, hunt-take, hunt-tear}
@@ -29,11 +28,11 @@ module _ (r : Record) (l : List ℕ) where
   along-start = record { within = omega arith; few = omega arith; hunts = sym (ahead-none Record Reply (huntFrom r l)) }
 
   module _ (b : Record) (at skipped : ℕ) (said : List Reply) (f : Along r l b at skipped said) where
-    pub along-pass : (to : ℕ) → Passed l at to → Along r l b to (skipped + (to - at)) said
+    pub along-pass : (to : ℕ) → Passed serial l at to → Along r l b to (skipped + (to - at)) said
     along-pass to p = record {
       within = p .inside;
       few = omega (arith, f .few, p .after);
-      hunts = f .hunts ∙ rw (hunt-pass Record Reply serial answer b (drop at l) (drop to l) (to - at) (p .cuts), ahead-ahead Record Reply said [] skipped (to - at) (huntFrom b (drop to l)), append-nil said) refl;
+      hunts = f .hunts ∙ rw (hunt-pass Record Reply serial answer b (drop at l) (drop to l) (to - at) (passed-cuts serial l at to p), ahead-ahead Record Reply said [] skipped (to - at) (huntFrom b (drop to l)), append-nil said) refl;
     }
 
     pub along-tear : look serial (drop at l) ≡ Tear → Along r l b (at + 1) (skipped + 1) said
@@ -77,7 +76,7 @@ module _ (r : Record) (l before : List ℕ) (start : ℕ) where
   sofar-start = record { said = []; along = along-start r l; room = omega arith; wrote-is = sym (add-zero start); bytes = sym (put-nil before start) }
 
   module _ (b : Record) (at skipped wrote : ℕ) (out : List ℕ) (f : Sofar r l before start b at skipped wrote out) where
-    pub sofar-pass : (to : ℕ) → Passed l at to → Sofar r l before start b to (skipped + (to - at)) wrote out
+    pub sofar-pass : (to : ℕ) → Passed serial l at to → Sofar r l before start b to (skipped + (to - at)) wrote out
     sofar-pass to p = record { said = f .said; along = along-pass r l b at skipped (f .said) (f .along) to p; room = omega (arith, f .room, p .after); wrote-is = f .wrote-is; bytes = f .bytes }
 
     pub sofar-tear : look serial (drop at l) ≡ Tear → Sofar r l before start b (at + 1) (skipped + 1) wrote out
@@ -109,18 +108,6 @@ module _ (r : Record) (l before : List ℕ) (start : ℕ) where
             wrote-is = rw (m, v) (omega (arith, f .wrote-is, c .ends));
             bytes = c .bytes ∙ rw (m, f .wrote-is, f .bytes) (put-put before start w x k);
           }
-
--- ---- what the finder showed
-
-module _ (l : List ℕ) (from until : ℕ) (found : Found) (f : Finds l from until found) where
-  pub shown-frame : (n : ℕ) → found .seen ≡ Frame n → look serial (drop (found .at) l) ≡ Take n
-  shown-frame n e = rw e at (f .shows)
-
-  pub shown-torn : found .seen ≡ Torn → look serial (drop (found .at) l) ≡ Tear
-  shown-torn e = rw e at (f .shows)
-
-  pub shown-nothing : found .seen ≡ Nothing → (until ≤ found .at) ⊎ (look serial (drop (found .at) l) ≡ Wait)
-  shown-nothing e = rw e at (f .shows)
 
 -- a frame that was found, as the part of the stream that holds it
 module _ (l : List ℕ) (at n : ℕ) (e : look serial (drop at l) ≡ Take n) where

@@ -14,6 +14,7 @@ use parts::set_pending;
 use record::places::AT_PENDING;
 use record::places::AT_WAITING;
 use record::places::PENDING_ROOM;
+use wire::Line;
 use wire::buffer::put_in;
 use wire::sizes::FRAME_MOST;
 use wire::sizes::JOIN_MOST;
@@ -50,7 +51,7 @@ fn hunt_in(rec: &mut [u8], s: &[u8], until: usize, out: &mut [u8], start: usize)
     let mut wrote = start;
     let mut skipped = 0;
     'hunt: while at < until {
-        let found = find(s, at, until);
+        let found = find(Line::Board, s, at, until);
         let to = found.at;
         let seen = found.seen;
         skipped += to - at;

@@ -1,5 +1,6 @@
 pub mod NumberLaws
 pub mod CutLaws
+pub mod Stretches
 pub mod SerialLaws
 pub mod RunLaws
 pub mod PutLaws

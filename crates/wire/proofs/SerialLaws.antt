@@ -3,17 +3,21 @@ use Prim.Native.Nat.{ℕ, _+_, _-_, _%_, _≤_, _<_}
 use mathlib.Core.Path.{_≡_, refl, sym, _∙_}
 use mathlib.Core.List.{List, _++_}
 use mathlib.Core.Bool.{Bool, true, false, cond, not, _&&_, _||_}
+use native.Mathlib.Nat.{add-zero}
 use native.Mathlib.Omega.{arith}
 use lib.ListN.{length, getD, take, drop, length-append, List·getD-append}
-use lib.Seq.{getD-take, length-take-le}
+use lib.Seq.{getD-drop, getD-take, length-take-le}
 use lib.Dec.{ltb, leb, eqb}
-use borrow.Author.Tests.{ltb-true, ltb-false, lt-ltb, le-ltb, leb-true, leb-false, eq-eqb, ne-eqb}
-use Rattle.wire.specs.Frames.{NeedMore, Of, Heads, Take, look, Piece, Whole, Broken, All, cut, isWait, waits}
+use borrow.Author.Tests.{ltb-true, ltb-false, lt-ltb, le-ltb, leb-true, leb-false, lt-leb, le-leb, eq-eqb, ne-eqb}
+use Rattle.wire.specs.declared.Line.{Line}
+use Rattle.wire.specs.declared.Line.the-variants.{Board}
+use Rattle.wire.specs.Frames.{NeedMore, Of, Heads, Skip, Wait, Take, Tear, look, Piece, Whole, Broken, All, cut, isWait, waits, Passed}
 use Rattle.wire.specs.Numbers.{Bytes}
-use Rattle.wire.specs.Serial.{Head, Bad, Fixed, front, fronted, isHead, serialHead, closed, serial, sixLines, headOf}
+use Rattle.wire.specs.Serial.{Head, Bad, Fixed, front, fronted, isHead, serialHead, closed, serial, lineHead, headsOf, Noise, sixLines, headOf}
 use Rattle.wire.proofs.NumberLaws.{bytes-take, bytes-drop}
 use Rattle.wire.proofs.CutLaws as cuts
 use Rattle.wire.proofs.CutLaws.{Steady, Under}
+use Rattle.wire.proofs.Stretches.{stretch-as}
 
 longer : (k : ℕ) (l more : List ℕ) → ltb k (length l) ≡ true → ltb k (length (l ++ more)) ≡ true
 longer k l more q = let p : k < length l = ltb-true _ _ q in lt-ltb k (length (l ++ more)) (simp length-append (omega arith))
@@ -51,11 +55,57 @@ module _ (head : ℕ → Head) (sound : List ℕ → Bool) where
       some = omega arith;
     }
 
+-- ---- the decision at the front, for any heads that the byte behind the AA makes known
+
+module _ (head : ℕ → Head) (sound : List ℕ → Bool) where
+  module _ (l : List ℕ) where
+    pub front-other : (getD l 0 0 ≡ 0xAA → ⊥) → look (fronted head sound) l ≡ Skip
+    unfolding look
+    front-other h = rw (ne-eqb (getD l 0 0) 0xAA h) refl
+
+    module _ (aa : getD l 0 0 ≡ 0xAA) where
+      pub front-alone : length l ≤ 1 → look (fronted head sound) l ≡ Wait
+      unfolding look
+      front-alone h = rw (eq-eqb (getD l 0 0) 0xAA aa, le-ltb 1 (length l) h) refl
+
+      module _ (two : 1 < length l) where
+        pub front-headless : head (getD l 1 0) ≡ Bad → look (fronted head sound) l ≡ Skip
+        unfolding look
+        front-headless h = rw (eq-eqb (getD l 0 0) 0xAA aa, lt-ltb 1 (length l) two, h) refl
+
+        module _ (n : ℕ) (good : head (getD l 1 0) ≡ Fixed n) where
+          pub front-unfinished : length l < 4 + n → look (fronted head sound) l ≡ Wait
+          unfolding look
+          front-unfinished h = rw (eq-eqb (getD l 0 0) 0xAA aa, lt-ltb 1 (length l) two, good, lt-leb (4 + n) (length l) h) refl
+
+          pub front-torn : 4 + n ≤ length l → sound (take (4 + n) l) ≡ false → look (fronted head sound) l ≡ Tear
+          unfolding look
+          front-torn h e = rw (eq-eqb (getD l 0 0) 0xAA aa, lt-ltb 1 (length l) two, good, le-leb (4 + n) (length l) h, e) refl
+
+          pub front-frame : 4 + n ≤ length l → sound (take (4 + n) l) ≡ true → look (fronted head sound) l ≡ Take n
+          unfolding look
+          front-frame h e = rw (eq-eqb (getD l 0 0) 0xAA aa, lt-ltb 1 (length l) two, good, le-leb (4 + n) (length l) h, e) refl
+
+  -- bytes that are no AA are skipped, whatever the heads are
+  pub noise-passed : (l : List ℕ) (from at : ℕ) → Noise l from at → Passed (fronted head sound) l from at
+  noise-passed l from at p =
+      stretch-as l _ (λ i. look (fronted head sound) (drop i l) ≡ Skip) (λ i e. front-other (drop i l) (λ q. e (sym (getD-drop i l 0 0 ∙ rw add-zero refl) ∙ q))) from at p
+
+-- ---- the lines
+
+pub heads-of : (k : Line) → headsOf k ≡ fronted (lineHead k) closed
+unfolding serial
+heads-of Board = refl
+
 -- ---- 9n and An
 
 short-by : (t : Bool) (b n : ℕ) → cond t (Fixed (b % 16)) Bad ≡ Fixed n → 4 + n ≤ 19
 short-by true b n e = let q : b % 16 ≡ n = cc in omega arith
 short-by false b n e = let z : _≡_ {A = ℕ} 0 1 = cc in absurd (omega arith)
+
+-- no line has a frame of more than 19 bytes
+pub line-short : (k : Line) (b n : ℕ) → lineHead k b ≡ Fixed n → 4 + n ≤ 19
+line-short Board b n e = short-by (isHead b) b n e
 
 pub serial-steady : Steady serial
 unfolding serial
@@ -63,7 +113,7 @@ serial-steady = fronted-steady serialHead closed
 
 pub serial-under : Under serial 19
 unfolding serial
-serial-under = fronted-under serialHead closed 19 (λ b n e. short-by (isHead b) b n e) (omega arith)
+serial-under = fronted-under serialHead closed 19 (line-short Board) (omega arith)
 
 -- at most 18 bytes wait
 pub pending-short : (l : List ℕ) → waits serial l ≡ true → length l ≤ 18
@@ -98,7 +148,7 @@ pieces-fair l b = cuts.all-pieces serial Fair l (fair-whole l b) (λ k e. tt)
 
 -- ---- the six lines
 
-closed-is : (n : ℕ) (l : List ℕ) → 4 + n ≤ length l → closed (take (4 + n) l) ≡ eqb (getD l (3 + n) 0) 0x85
+pub closed-is : (n : ℕ) (l : List ℕ) → 4 + n ≤ length l → closed (take (4 + n) l) ≡ eqb (getD l (3 + n) 0) 0x85
 closed-is n l p =
     let e : 4 + n - 1 ≡ 3 + n = omega arith in
     rw (length-take-le (4 + n) l p, e, getD-take (4 + n) l (3 + n) 0 (omega arith)) refl

@@ -1,8 +1,9 @@
 -- How a stream of bytes is cut into frames, broken heads, skipped bytes and waiting bytes, for any set of heads.
-use Prim.Native.Nat.{ℕ, zero, suc, _+_}
+use Prim.Native.Nat.{ℕ, zero, suc, _+_, _≤_, _<_}
+use mathlib.Core.Path.{_≡_}
 use mathlib.Core.List.{List, [], _∷_}
 use mathlib.Core.Bool.{Bool, true, false, _||_}
-use lib.ListN.{length, getD, take}
+use lib.ListN.{length, getD, take, drop}
 use lib.Dec.{leb, eqb}
 
 -- what the front of a stream says of a frame's size: none begins here, more bytes are needed to say, 4 + n bytes
@@ -101,3 +102,13 @@ isWait Tear = false
 unfoldable pub waits : Heads → List ℕ → Bool
 unfolding look
 waits h l = eqb (length l) 0 || isWait (look h l)
+
+-- something holds at each place of a stream from one up to another
+pub record Stretch (l : List ℕ) (Is : ℕ → Type 0) (from at : ℕ) : Type 0 where
+  pub after : from ≤ at
+  pub inside : at ≤ length l
+  pub each : (i : ℕ) → from ≤ i → i < at → Is i
+
+-- every byte from one place up to another is skipped
+abbrev pub Passed : Heads → List ℕ → ℕ → ℕ → Type 0
+Passed h l from at = Stretch l (λ i. look h (drop i l) ≡ Skip) from at

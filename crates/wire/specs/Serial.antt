@@ -1,10 +1,13 @@
 -- Heads that the byte behind the AA makes known, and those of this board: 9n and An.
 use Prim.Native.Nat.{ℕ, _+_, _-_, _%_}
+use mathlib.Core.Logic.{_≢_}
 use mathlib.Core.List.{List}
 use mathlib.Core.Bool.{Bool, true, false, cond, _&&_}
 use lib.ListN.{length, getD, take, drop}
 use lib.Dec.{ltb, leb, eqb}
-use Rattle.wire.specs.Frames.{Size, NoHead, NeedMore, Of, Heads, Look, Skip, Wait, Take, Tear}
+use Rattle.wire.specs.declared.Line.{Line}
+use Rattle.wire.specs.declared.Line.the-variants.{Board}
+use Rattle.wire.specs.Frames.{Size, NoHead, NeedMore, Of, Heads, Look, Skip, Wait, Take, Tear, Stretch}
 
 -- what a byte behind the AA announces: no frame, or one of 4 + n bytes
 pub data Head : Type 0 where
@@ -35,6 +38,17 @@ closed f = eqb (getD f (length f - 1) 0) 0x85
 
 unfoldable pub serial : Heads
 serial = fronted serialHead closed
+
+-- the heads of each line: what the byte behind the AA announces there, and the set that it makes
+abbrev pub lineHead : Line → ℕ → Head
+lineHead Board = serialHead
+
+abbrev pub headsOf : Line → Heads
+headsOf Board = serial
+
+-- none of the bytes from one place up to another is AA
+abbrev pub Noise : List ℕ → ℕ → ℕ → Type 0
+Noise l from at = Stretch l (λ i. getD l i 0 ≢ 0xAA) from at
 
 -- The six lines of the hunt, as the page has them: is the first byte AA, is there a second, is it a head, are 4 + n bytes
 -- present, is the last of them 85. That `look serial` is these lines is `look-lines` of wire/proofs/SerialLaws.

@@ -10,3 +10,8 @@ pub enum Range {
     Big,
     Small,
 }
+
+// Whose heads a stream is hunted for.
+pub enum Line {
+    Board,
+}

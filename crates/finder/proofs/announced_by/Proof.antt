@@ -1,20 +1,14 @@
-use Rattle.finder.proofs.FinderLaws.{low-none, high-none, head-params}
-use native.Mathlib.Omega.{arith}
 use borrow.Author.Needs.{needs}
+use mathlib.Core.Path.{_∙_}
+use Rattle.finder.proofs.FinderLaws.{board-line}
 use Rattle.finder.proofs.announced_by.Statement.{statement}
 use Rattle.finder.proofs.announced_by.Tie as tie
 
+board-announces-requires : tie.Need-board-announces-requires
+board-announces-requires c κs = search needs
+
 returns : tie.Need-returns
-returns c = low-none (c .before .args .b) (c .if1 .taken)
-
-returns-2 : tie.Need-returns-2
-returns-2 c = high-none (c .before .before .args .b) (c .if2 .taken)
-
-cast-t4 : tie.Need-cast-t4
-cast-t4 c = search needs
-
-returns-3 : tie.Need-returns-3
-returns-3 c = head-params (c .before .before .args .b) (omega (arith, c .before .if1 .left)) (omega (arith, c .if2 .left))
+returns c = c .board-announces .ensures ∙ board-line (c .before .args .line) (c .before .args .b)
 
 pub announced-by-spec : {M : Type 1} → statement M
-announced-by-spec = tie.close (tie.spec returns returns-2 cast-t4 returns-3)
+announced-by-spec = tie.close (tie.spec board-announces-requires returns)

@@ -1,19 +1,20 @@
 use native.Mathlib.Omega.{arith}
-use Rattle.finder.specs.Finder.{Passed}
-use Rattle.finder.proofs.FinderLaws.{passed-none, passed-sixteen}
+use Rattle.wire.specs.Serial.{Noise}
+use Rattle.wire.proofs.Stretches.{stretch-none}
+use Rattle.finder.proofs.FinderLaws.{noise-sixteen}
 use borrow.Author.Tests.{not-false}
 use Prim.Native.Nat.{_-_, _≤_}
 use Rattle.finder.proofs.leap.Statement.{statement}
 use Rattle.finder.proofs.leap.Tie as tie
 
 abbrev Inv-loop : tie.InvT-loop
-Inv-loop s from until at₀ at = Passed s from at × (at ≤ until)
+Inv-loop s from until at₀ at = Noise s from at × (at ≤ until)
 
 abbrev μ-loop : tie.MeasureT-loop
 μ-loop s from until at₀ at = until - at
 
 loop-holds : tie.Need-loop-holds Inv-loop μ-loop
-loop-holds c = (passed-none (c .before .args .s .now) (c .before .args .from) (omega arith), omega arith)
+loop-holds c = (stretch-none _ _ _ (omega arith), omega arith)
 
 sub-loop : tie.Need-sub-loop Inv-loop μ-loop
 sub-loop c = omega arith
@@ -40,7 +41,7 @@ loop-again : tie.Need-loop-again Inv-loop μ-loop
 loop-again c =
     let l = c .before .before .before .before .loop in
     let a = c .before .before .before .before .before .before .args in
-    (passed-sixteen (a .s .now) (a .from) (l .at) _ _ (l .inv .0) (omega arith) (c .before .before .quiet-eight .ensures) (c .before .quiet-eight2 .ensures) (not-false _ (c .if1 .left)), omega arith)
+    (noise-sixteen (a .s .now) (a .from) (l .at) _ _ (l .inv .0) (omega arith) (c .before .before .quiet-eight .ensures) (c .before .quiet-eight2 .ensures) (not-false _ (c .if1 .left)), omega arith)
 
 returns-2 : tie.Need-returns-2 Inv-loop μ-loop
 returns-2 c = c .before .loop .inv

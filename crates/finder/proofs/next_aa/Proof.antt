@@ -1,13 +1,13 @@
 use native.Mathlib.Omega.{arith}
-use Rattle.finder.proofs.FinderLaws.{passed-none, passed-noise}
-use Rattle.finder.specs.Finder.{Passed}
+use Rattle.wire.specs.Serial.{Noise}
+use Rattle.wire.proofs.Stretches.{stretch-none, stretch-one}
 use Prim.Native.Nat.{_-_, _≤_}
 use mathlib.Core.Logic.{inl, inr}
 use Rattle.finder.proofs.next_aa.Statement.{statement}
 use Rattle.finder.proofs.next_aa.Tie as tie
 
 abbrev Inv-loop : tie.InvT-loop
-Inv-loop s from until at₀ at = Passed s from at × (at ≤ until)
+Inv-loop s from until at₀ at = Noise s from at × (at ≤ until)
 
 abbrev μ-loop : tie.MeasureT-loop
 μ-loop s from until at₀ at = until - at
@@ -16,7 +16,7 @@ shared-slice-read-if1 : tie.Need-shared-slice-read-if1 Inv-loop μ-loop
 shared-slice-read-if1 c = omega arith
 
 returns : tie.Need-returns Inv-loop μ-loop
-returns c = record { passed = passed-none (c .before .before .before .args .s .now) (c .before .before .before .args .from) (omega arith); upTo = omega arith; stops = inr (c .if1 .taken) }
+returns c = record { noise = stretch-none _ _ _ (omega arith); upTo = omega arith; stops = inr (c .if1 .taken) }
 
 leap-requires : tie.Need-leap-requires Inv-loop μ-loop
 leap-requires c κs = omega arith
@@ -28,7 +28,7 @@ shared-slice-read-if2 : tie.Need-shared-slice-read-if2 Inv-loop μ-loop
 shared-slice-read-if2 c = omega arith
 
 returns-2 : tie.Need-returns-2 Inv-loop μ-loop
-returns-2 c = let l = c .before .before .before .loop in record { passed = l .inv .0; upTo = l .inv .1; stops = inr (c .if2 .taken) }
+returns-2 c = let l = c .before .before .before .loop in record { noise = l .inv .0; upTo = l .inv .1; stops = inr (c .if2 .taken) }
 
 add-at : tie.Need-add-at Inv-loop μ-loop
 add-at c = omega arith
@@ -40,10 +40,10 @@ loop-again : tie.Need-loop-again Inv-loop μ-loop
 loop-again c =
     let l = c .before .before .before .loop in
     let a = c .before .before .before .before .before .before .before .before .args in
-    (passed-noise (a .s .now) (a .from) (l .at) (l .inv .0) (omega arith) (c .if2 .left), omega arith)
+    (stretch-one (a .s .now) _ (a .from) (l .at) (l .inv .0) (omega arith) (c .if2 .left), omega arith)
 
 returns-3 : tie.Need-returns-3 Inv-loop μ-loop
-returns-3 c = let l = c .before .loop in record { passed = l .inv .0; upTo = l .inv .1; stops = inl (omega arith) }
+returns-3 c = let l = c .before .loop in record { noise = l .inv .0; upTo = l .inv .1; stops = inl (omega arith) }
 
 pub next-aa-spec : {M : Type 1} → statement M
 next-aa-spec =

@@ -2,7 +2,8 @@ use Rattle.record.proofs.PlaceLaws.{holds-long}
 use native.Mathlib.Omega.{arith}
 use Rattle.record.specs.Layout.{recordOf}
 use Rattle.hunt.specs.Progress.{Going}
-use Rattle.hunt.proofs.SofarLaws.{shown-frame, shown-torn, shown-nothing, found-room}
+use Rattle.finder.proofs.FinderLaws.{shown-frame, shown-torn, shown-nothing}
+use Rattle.hunt.proofs.SofarLaws.{found-room}
 use Rattle.hunt.proofs.GoingLaws.{going-start, going-sound, going-kept, going-pass, going-tear, going-long, going-room, going-carried, going-frame}
 use borrow.Author.Needs.{needs}
 use Prim.Native.Nat.{ℕ, _+_, _-_, _≤_}
@@ -41,7 +42,7 @@ module _ (f : tie.After-find Inv-hunt μ-hunt) where
       going-pass stream (z .out .now) (z .start) (recordOf (z .rec .now)) (l .at) (l .skipped) (l .wrote) (l .rec) (l .out) (l .inv) here (f .find .ensures .passed)
 
   frame-here : (n : ℕ) → f .find .result .seen ≡ Frame n → look serial (drop here stream) ≡ Take n
-  frame-here n told = shown-frame stream (f .before .before .hunt .at) (f .before .before .before .before .before .before .args .until) (f .find .result) (f .find .ensures) n told
+  frame-here n told = shown-frame serial stream (f .before .before .hunt .at) (f .before .before .before .before .before .before .args .until) (f .find .result) (f .find .ensures) n told
 
   room-here : (n : ℕ) → f .find .result .seen ≡ Frame n → here + 4 + n ≤ length stream
   room-here n told = found-room stream here n (frame-here n told)
@@ -52,7 +53,7 @@ module _ (f : tie.After-find Inv-hunt μ-hunt) where
       let z = f .before .before .before .before .before .before .args in
       let l = f .before .before .hunt in
       going-tear stream (z .out .now) (z .start) (recordOf (z .rec .now)) here (l .skipped + (here - l .at)) (l .wrote) (l .rec) (l .out) going-here
-      (shown-torn stream (l .at) (z .until) (f .find .result) (f .find .ensures) told)
+      (shown-torn serial stream (l .at) (z .until) (f .find .result) (f .find .ensures) told)
 
 -- at the head of the loop
 module _ (l : tie.At-hunt Inv-hunt μ-hunt) where
@@ -160,7 +161,7 @@ same-length-4 c = hunt-long (c .before .before .before .before)
 returns-2 : tie.Need-returns-2 Inv-hunt μ-hunt
 returns-2 c =
     let f = c .before .before in
-    record { going = going-here f; stops = shown-nothing (stream f) (f .before .before .hunt .at) (f .before .before .before .before .before .before .args .until) (f .find .result) (f .find .ensures) (c .enum-told2 .given .1) }
+    record { going = going-here f; stops = shown-nothing serial (stream f) (f .before .before .hunt .at) (f .before .before .before .before .before .before .args .until) (f .find .result) (f .find .ensures) (c .enum-told2 .given .1) }
 
 pub hunt-in-spec : {M : Type 1} → statement M
 hunt-in-spec =

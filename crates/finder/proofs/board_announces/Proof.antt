@@ -1,0 +1,22 @@
+use Rattle.finder.proofs.FinderLaws.{low-none, high-none, head-params}
+use native.Mathlib.Omega.{arith}
+use borrow.Author.Needs.{needs}
+use Rattle.finder.proofs.board_announces.Statement.{statement}
+use Rattle.finder.proofs.board_announces.Tie as tie
+use Rattle.finder.proofs.board_announces.Reads as reads
+use Rattle.finder.proofs.board_announces.Lts as lts
+
+returns : tie.Need-returns
+returns c = low-none (c .before .args .b) (c .if1 .taken)
+
+returns-2 : tie.Need-returns-2
+returns-2 c = high-none (c .before .before .args .b) (c .if2 .taken)
+
+cast-t4 : tie.Need-cast-t4
+cast-t4 c = search needs
+
+returns-3 : tie.Need-returns-3
+returns-3 c = head-params (c .before .before .args .b) (omega (arith, c .before .if1 .left)) (omega (arith, c .if2 .left))
+
+pub board-announces-spec : {M : Type 1} → statement M
+board-announces-spec = tie.close (tie.spec returns returns-2 cast-t4 returns-3)
