@@ -8,6 +8,7 @@ use Rattle.wire.specs.Numbers.{Bytes}
 use Rattle.wire.specs.Frames.{look, Take, Tear, Passed}
 use Rattle.wire.specs.Serial.{serial, isHead, headOf}
 use Rattle.wire.proofs.SerialLaws.{fair-whole}
+use Rattle.wire.proofs.AlongLaws.{found-part}
 use Rattle.record.specs.Record.{Record}
 use Rattle.record.specs.Layout.{recordOf}
 use Rattle.record.specs.Place.{Sound}
@@ -15,7 +16,7 @@ use Rattle.record.proofs.PlaceLaws.{holds-is, holds-sound, holds-long}
 use Rattle.command.specs.Step.{stepOf}
 use Rattle.carry.specs.Carry.{Carries}
 use Rattle.hunt.specs.Progress.{Going}
-use Rattle.hunt.proofs.SofarLaws.{sofar-start, sofar-pass, sofar-tear, sofar-long, sofar-room, sofar-take, found-part}
+use Rattle.hunt.proofs.SofarLaws.{sofar-start, sofar-pass, sofar-tear, sofar-long, sofar-room, sofar-take}
 
 module _ (l before : List ℕ) (start : ℕ) where
   pub going-start : (s : List ℕ) → Sound s → Going (recordOf s) l before start 0 0 start s before
@@ -50,7 +51,7 @@ module _ (l before : List ℕ) (start : ℕ) where
 
         -- the frame as the part of the stream that was handed on
         pub going-carried : (end : ℕ) (kept′ out′ : List ℕ) → Carries (recordOf kept) (take (at + 4 + n - at) (drop at l)) out wrote end kept′ out′ → Going r l before start (at + 4 + n) skipped end kept′ out′
-        going-carried end kept′ out′ c = going-take end kept′ out′ (subst (λ (f : List ℕ). Carries (recordOf kept) f out wrote end kept′ out′) (found-part l at n e) c)
+        going-carried end kept′ out′ c = going-take end kept′ out′ (subst (λ (f : List ℕ). Carries (recordOf kept) f out wrote end kept′ out′) (found-part serial l at n e) c)
 
         pub going-frame : Bytes l → (4 ≤ length (take (at + 4 + n - at) (drop at l))) × (isHead (headOf (take (at + 4 + n - at) (drop at l))) ≡ true)
-        going-frame b = let w = fair-whole l b at n e in rw (found-part l at n e) (w .0, w .2)
+        going-frame b = let w = fair-whole l b at n e in rw (found-part serial l at n e) (w .0, w .2)

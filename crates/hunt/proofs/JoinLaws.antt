@@ -8,17 +8,20 @@ use lib.Seq.{take-at, take-all, length-take-le, take-take}
 use Rattle.wire.specs.Sizes.{frameMost, joinMost}
 use Rattle.hunt.specs.Hunt.{roomFor}
 use Rattle.wire.specs.Numbers.{put}
+use Rattle.wire.specs.Serial.{serial}
+use Rattle.wire.specs.Replies.{Reply}
 use Rattle.wire.proofs.NumberLaws.{part-is, drop-take}
 use Rattle.wire.proofs.PutLaws.{put-put, put-zero}
 use Rattle.wire.proofs.SerialLaws.{pending-short}
+use Rattle.wire.proofs.AlongLaws.{stopped}
 use Rattle.record.specs.Record.{Record, withPending}
 use Rattle.record.specs.Layout.{recordSize, pendingRoom, atPending, atWaiting, atPairs, recordOf}
 use Rattle.record.specs.Place.{Sound, Turns}
 use Rattle.record.proofs.PlaceLaws.{holds-long}
 use Rattle.record.proofs.Lens.{get-pending-length}
+use Rattle.command.specs.Step.{answer}
 use Rattle.hunt.specs.Progress.{Hunts, Rests, Joins, Serves}
 use Rattle.hunt.specs.declared.Progress.{Progress}
-use Rattle.hunt.proofs.SofarLaws.{stopped}
 use Rattle.hunt.proofs.GoingLaws.{going-kept}
 use Rattle.hunt.proofs.ServeLaws.{halted-short, head-short, serves-head, rest-starts, rest-room, serves-rest}
 
@@ -61,7 +64,7 @@ module _ (s l before : List ℕ) (start : ℕ) (p : Progress) (mid out : List �
   rests-kept = going-kept l before start (recordOf s) (p .at) (p .skipped) (p .wrote) mid out (h .going)
 
   pub rests-short : length (take (length l - p .at) (drop (p .at) l)) ≤ pendingRoom
-  rests-short = rw (part-rest l (p .at)) (halted-short (h .going .board) (drop (p .at) l) (stopped (h .going .board) l (p .at) (length l) (omega arith) (h .stops)))
+  rests-short = rw (part-rest l (p .at)) (halted-short (h .going .board) (drop (p .at) l) (stopped Record Reply serial answer (h .going .board) l (p .at) (length l) (omega arith) (h .stops)))
 
   pub rests : (kept : List ℕ) → Turns mid kept (λ z. withPending z (take (length l - p .at) (drop (p .at) l))) → Rests (recordOf s) l before start p kept out
   rests kept t = record { mid = mid; hunts = h; turns = subst (λ (x : List ℕ). Turns mid kept (λ z. withPending z x)) (part-rest l (p .at)) t }

@@ -11,21 +11,21 @@ use Rattle.wire.specs.Numbers.{put}
 use Rattle.wire.specs.Frames.{look, Wait, cut}
 use Rattle.wire.specs.Serial.{serial}
 use Rattle.wire.specs.Replies.{Reply, written}
-use Rattle.wire.specs.Run.{Hunted, hunt, halt, ahead}
+use Rattle.wire.specs.Run.{Hunted, hunt, halt, ahead, Along}
 use Rattle.wire.proofs.CutLaws.{wait-short}
 use Rattle.wire.proofs.SerialLaws.{serial-steady, serial-under, waiting-short}
 use Rattle.wire.proofs.PutLaws.{put-put, length-put}
 use Rattle.wire.proofs.ReplyLaws.{written-append}
 use Rattle.wire.proofs.RunLaws.{hunt-wait, hunt-further}
+use Rattle.wire.proofs.AlongLaws.{along-end, stopped}
 use Rattle.record.specs.Record.{Record, withPending}
 use Rattle.record.specs.Layout.{bytesOf, recordOf}
 use Rattle.record.specs.Place.{Turns}
 use Rattle.record.proofs.PlaceLaws.{holds-is}
 use Rattle.command.specs.Step.{answer}
 use Rattle.hunt.specs.Hunt.{huntFrom, huntOf, recordAfter}
-use Rattle.hunt.specs.Progress.{Along, Hunts, Serves}
+use Rattle.hunt.specs.Progress.{Hunts, Serves}
 use Rattle.hunt.specs.declared.Progress.{Progress}
-use Rattle.hunt.proofs.SofarLaws.{along-end, stopped}
 
 hunt-of : (r : Record) (input : List ℕ) → huntOf r input ≡ huntFrom r (r .pending ++ input)
 unfolding huntOf
@@ -54,7 +54,7 @@ module _ (p i : List ℕ) (n : ℕ) (n-is : n ≡ length i - (length i - 19)) wh
   pub joined-length : length joined ≡ length p + n
   joined-length = length-append p (take n i) ∙ rw front-length refl
 
-  module _ (r b : Record) (at k : ℕ) (said : List Reply) (f : Along r joined b at k said) where
+  module _ (r b : Record) (at k : ℕ) (said : List Reply) (f : Along serial answer r joined b at k said) where
     -- a candidate that starts in the pending bytes and waits has seen all of the input
     waits-all : at < length p → (length p ≤ at) ⊎ (look serial (drop at joined) ≡ Wait) → (joined ≡ p ++ i) × (huntFrom b (drop at joined) ≡ halt b (drop at joined))
     waits-all h w = ⊎-elim (λ e. absurd (omega arith))
@@ -102,7 +102,7 @@ module _ (r : Record) (input before : List ℕ) where
       serves-head kept′ t =
           let g = f .going in
           serves (g .board) (g .sofar .said) (h .skipped) (h .wrote) (drop (h .at) head) kept′ out
-          (ap (huntFrom r) (sym (all .0)) ∙ along-end r head (g .board) (h .at) (h .skipped) (g .sofar .said) (g .sofar .along) (all .1))
+          (ap (huntFrom r) (sym (all .0)) ∙ along-end Record Reply serial answer r head (g .board) (h .at) (h .skipped) (g .sofar .said) (g .sofar .along) (all .1))
           (t (g .board) (g .held .fit) (g .held .same)) (g .sofar .wrote-is ∙ zero-add _) (g .sofar .bytes)
 
     -- the hunt went on in the input
@@ -120,7 +120,7 @@ module _ (r : Record) (input before : List ℕ) where
 
       module _ (x : Progress) (kept₂ out₂ : List ℕ) (y : Hunts (recordOf kept) rest out (length rest) (h .wrote) x kept₂ out₂) where
         end-halts : huntFrom (y .going .board) (drop (x .at) rest) ≡ halt (y .going .board) (drop (x .at) rest)
-        end-halts = stopped (y .going .board) rest (x .at) (length rest) (omega arith) (y .stops)
+        end-halts = stopped Record Reply serial answer (y .going .board) rest (x .at) (length rest) (omega arith) (y .stops)
 
         pub rest-short : length (drop (x .at) rest) ≤ 18
         rest-short = halted-short (y .going .board) (drop (x .at) rest) end-halts
@@ -136,7 +136,7 @@ module _ (r : Record) (input before : List ℕ) where
             goes-on (r .pending) input n n-is r (g .board) (h .at) (h .skipped) said (g .sofar .along) past in
             let second : huntFrom (g .board) rest ≡ record { state = u .board; said = more; skipped = x .skipped; waiting = drop (x .at) rest } =
             ap (λ (b : Record). huntFrom b rest) (sym (holds-is (g .board) kept (g .held)))
-            ∙ along-end (recordOf kept) rest (u .board) (x .at) (x .skipped) more (u .sofar .along) end-halts in
+            ∙ along-end Record Reply serial answer (recordOf kept) rest (u .board) (x .at) (x .skipped) more (u .sofar .along) end-halts in
             serves (u .board) (said ++ more) (h .skipped + x .skipped) (x .wrote) (drop (x .at) rest) kept₃ out₂ (first ∙ rw second refl)
             (t (u .board) (u .held .fit) (u .held .same))
             (u .sofar .wrote-is ∙ rw (v, g .sofar .wrote-is, zero-add) (sym (length-append (written said) (written more))))

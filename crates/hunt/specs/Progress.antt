@@ -9,24 +9,19 @@ use Rattle.wire.specs.Numbers.{put}
 use Rattle.wire.specs.Frames.{look, Wait}
 use Rattle.wire.specs.Serial.{serial}
 use Rattle.wire.specs.Replies.{Reply, written}
-use Rattle.wire.specs.Run.{hunt, ahead}
+use Rattle.wire.specs.Run.{Along}
 use Rattle.record.specs.Record.{Record, withPending}
 use Rattle.record.specs.Layout.{bytesOf}
 use Rattle.record.specs.Place.{Holds, Turns}
-use Rattle.hunt.specs.Hunt.{huntFrom, huntOf, recordAfter, roomFor}
+use Rattle.command.specs.Step.{answer}
+use Rattle.hunt.specs.Hunt.{huntOf, recordAfter, roomFor}
 use Rattle.hunt.specs.declared.Progress.{Progress}
 use Rattle.hunt.specs.declared.Served.{Served}
 
--- the board b at a place of the stream, so many bytes skipped, these replies said
-pub record Along (r : Record) (l : List ℕ) (b : Record) (at skipped : ℕ) (said : List Reply) : Type 0 where
-  pub within : at ≤ length l
-  pub few : skipped ≤ at
-  pub hunts : huntFrom r l ≡ ahead said skipped (huntFrom b (drop at l))
-
--- and the replies written from a place of the output on
+-- the board b on its way through the stream, and the replies written from a place of the output on
 pub record Sofar (r : Record) (l before : List ℕ) (start : ℕ) (b : Record) (at skipped wrote : ℕ) (out : List ℕ) : Type 0 where
   pub said : List Reply
-  pub along : Along r l b at skipped said
+  pub along : Along serial answer r l b at skipped said
   pub room : length (written said) ≤ roomFor at
   pub wrote-is : wrote ≡ start + length (written said)
   pub bytes : out ≡ put before start (written said)

@@ -3,6 +3,7 @@ pub mod CutLaws
 pub mod Stretches
 pub mod SerialLaws
 pub mod RunLaws
+pub mod AlongLaws
 pub mod PutLaws
 pub mod ReplyLaws
 pub mod HuntRows

@@ -1,6 +1,8 @@
 -- The pieces of a stream answered one after the other, for any kind of state and answer.
-use Prim.Native.Nat.{ℕ, _+_}
+use Prim.Native.Nat.{ℕ, _+_, _≤_}
+use mathlib.Core.Path.{_≡_}
 use mathlib.Core.List.{List, [], _∷_, _++_}
+use lib.ListN.{length, drop}
 use Rattle.wire.specs.Frames.{Heads, Piece, Cut, cutFrom, cut}
 
 -- a state, and what was said on the way to it
@@ -33,3 +35,10 @@ halt s l = record { state = s; said = []; skipped = 0; waiting = l }
 
 abbrev pub ahead : {S A : Type 0} → List A → ℕ → Hunted S A → Hunted S A
 ahead said k h = record { state = h .state; said = said ++ h .said; skipped = k + h .skipped; waiting = h .waiting }
+
+-- a hunt on its way through a stream: it stands at a place in this state, so many bytes skipped, this said,
+-- and the hunt from there on is all that is left of the whole
+pub record Along {S A : Type 0} (heads : Heads) (answer : S → Piece → Run S A) (s : S) (l : List ℕ) (b : S) (at skipped : ℕ) (said : List A) : Type 0 where
+  pub within : at ≤ length l
+  pub few : skipped ≤ at
+  pub hunts : hunt heads answer s l ≡ ahead said skipped (hunt heads answer b (drop at l))

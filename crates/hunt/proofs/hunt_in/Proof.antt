@@ -3,7 +3,7 @@ use native.Mathlib.Omega.{arith}
 use Rattle.record.specs.Layout.{recordOf}
 use Rattle.hunt.specs.Progress.{Going}
 use Rattle.finder.proofs.FinderLaws.{shown-frame, shown-torn, shown-nothing}
-use Rattle.hunt.proofs.SofarLaws.{found-room}
+use Rattle.wire.proofs.AlongLaws.{found-room}
 use Rattle.hunt.proofs.GoingLaws.{going-start, going-sound, going-kept, going-pass, going-tear, going-long, going-room, going-carried, going-frame}
 use borrow.Author.Needs.{needs}
 use Prim.Native.Nat.{ℕ, _+_, _-_, _≤_}
@@ -45,7 +45,7 @@ module _ (f : tie.After-find Inv-hunt μ-hunt) where
   frame-here n told = shown-frame serial stream (f .before .before .hunt .at) (f .before .before .before .before .before .before .args .until) (f .find .result) (f .find .ensures) n told
 
   room-here : (n : ℕ) → f .find .result .seen ≡ Frame n → here + 4 + n ≤ length stream
-  room-here n told = found-room stream here n (frame-here n told)
+  room-here n told = found-room serial stream here n (frame-here n told)
 
   torn-here : f .find .result .seen ≡ Torn → let z = f .before .before .before .before .before .before .args in let l = f .before .before .hunt in
       Going (recordOf (z .rec .now)) stream (z .out .now) (z .start) (here + 1) (l .skipped + (here - l .at) + 1) (l .wrote) (l .rec) (l .out)
