@@ -3,8 +3,6 @@ use native.Mathlib.Omega.{arith}
 use borrow.Author.Needs.{needs}
 use Rattle.finder.proofs.board_announces.Statement.{statement}
 use Rattle.finder.proofs.board_announces.Tie as tie
-use Rattle.finder.proofs.board_announces.Reads as reads
-use Rattle.finder.proofs.board_announces.Lts as lts
 
 returns : tie.Need-returns
 returns c = low-none (c .before .args .b) (c .if1 .taken)
