@@ -1,4 +1,5 @@
 #include "help.h"
+#include "board.h"
 
 #include <stdio.h>
 
@@ -30,4 +31,4 @@ static const char help[] =
 
 void print_help(void) { fputs(help, stdout); }
 
-void print_version(void) { printf("desk 1, board %s\n", BOARD_SOURCES); }
+void print_version(void) { printf("desk and board %s, sources %s\n", BOARD_VERSION, BOARD_SOURCES); }
