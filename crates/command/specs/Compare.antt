@@ -27,6 +27,7 @@ isCode Closed = false
 isCode Unlocked = false
 isCode Code = true
 
+-- a built command with the right number of parameters that needs the code
 abbrev pub unlocking : List ℕ → Listed → Bool
 unlocking p (Built c) = isRight (countedOf c (length p)) && isCode (needOf c)
 unlocking p NotBuilt = false

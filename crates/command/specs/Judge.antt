@@ -23,7 +23,7 @@ use Rattle.command.specs.declared.Verdict.{Verdict}
 use Rattle.command.specs.declared.Verdict.the-variants.{Do, Refuse}
 use Rattle.command.specs.Tables.{listedOf, spanOf, countedOf, needOf, rangeOf}
 
--- the status of each refusal; "One 62 for all of these is *house*."
+-- the status of each refusal: "40 number not listed for this head", "41 listed as known but not built", "5B wrong number of parameters", "62 access", "54 / 55 parameter too big / too small"; "One 62 for all of these is *house*."
 abbrev pub statusOf : Refusal → ℕ
 statusOf Unknown = 0x40
 statusOf Unbuilt = 0x41
@@ -38,7 +38,7 @@ statusOf TooSmall = 0x55
 -- 2. any amplifier command with it open
 -- 3. 1C while locked
 -- 4. 19 with three wrong tries used
--- 5. 19 with a wrong code
+-- 5. 19 with a wrong code (this adds one to the tries: `leftBy` of `Step`)
 unfoldable pub accessOf : Need → Record → List ℕ → Access
 accessOf Nothing r p = Given
 -- 1
@@ -50,29 +50,30 @@ accessOf Unlocked r p = cond (r .flags .opened) Missing (cond (r .flags .unlocke
 -- 2, 4, 5
 accessOf Code r p = cond (r .flags .opened) Missing (cond (leb 3 (r .tries)) Missing (cond (eqb (wordAt p 0) (r .code)) Given WrongCode))
 
--- 54, 55
+-- 54, 55: the last check; what passes it is done
 abbrev pub byRange : Command → Range → Verdict
 byRange c Fits = Do c
 byRange c Big = Refuse TooBig
 byRange c Small = Refuse TooSmall
 
--- 62
+-- 62, then 54, 55
 abbrev pub byAccess : Command → List ℕ → Access → Verdict
 byAccess c p Given = byRange c (rangeOf c p)
 byAccess c p Missing = Refuse NoAccess
 byAccess c p WrongCode = Refuse BadCode
 
--- 5B
+-- 5B, then 62
 abbrev pub byCount : Command → Record → List ℕ → Counted → Verdict
 byCount c r p Right = byAccess c p (accessOf (needOf c) r p)
 byCount c r p Wrong = Refuse Parameters
 
--- 40, 41
+-- 40, 41, then 5B
 abbrev pub byNumber : Record → List ℕ → Listed → Verdict
 byNumber r p (Built c) = byCount c r p (countedOf c (length p))
 byNumber r p NotBuilt = Refuse Unbuilt
 byNumber r p Unlisted = Refuse Unknown
 
+-- "In this order; the first that applies is the reply": the verdict on a number under a head with the parameters p
 unfoldable pub verdictOf : Record → ℕ → ℕ → List ℕ → Verdict
 unfolding listedOf spanOf countedOf needOf accessOf rangeOf
 verdictOf r head number p = byNumber r p (listedOf head number)

@@ -20,10 +20,12 @@ leftBy Unknown r = r
 leftBy Unbuilt r = r
 leftBy Parameters r = r
 leftBy NoAccess r = r
+-- "19 with a wrong code (this adds one to the tries)"; "A wrong code while unlocked counts as a try and leaves the board unlocked."
 leftBy BadCode r = withTries r (r .tries + 1)
 leftBy TooBig r = r
 leftBy TooSmall r = r
 
+-- the record that a command leaves, and its reply
 pub record Step : Type 0 where
   pub after : Record
   pub reply : Reply
@@ -43,7 +45,7 @@ unfoldable pub stepOf : Record → List ℕ → Step
 unfolding stepBy
 stepOf r f = stepBy r (headOf f) (numberOf f) (paramsOf f)
 
--- what the board does with a piece of the stream; a broken head is passed without a reply
+-- what the board does with a piece of the stream: "the frame is carried out and replied to"; a broken head is passed "without a reply"
 abbrev pub answer : Record → Piece → Run Record Reply
 answer r (Whole f) = record { state = stepOf r f .after; said = stepOf r f .reply ∷ [] }
 answer r (Broken head) = record { state = r; said = [] }

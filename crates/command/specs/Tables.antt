@@ -80,7 +80,7 @@ abbrev pub lookUp : ℕ → List Row → Listed
 lookUp n [] = Unlisted
 lookUp n (r ∷ rows) = cond (eqb n (r .number)) (r .listed) (lookUp n rows)
 
--- An heads the BT121 commands, 9n the amplifier's
+-- "number not listed for this head": An heads the BT121 commands, 9n the amplifier's; no other head comes here
 unfoldable pub listedOf : ℕ → ℕ → Listed
 listedOf head number = cond (eqb (head / 16) 0xA) (lookUp number bt121) (lookUp number amplifier)
 
@@ -93,34 +93,52 @@ pub record Span : Type 0 where
 abbrev pub exactly : ℕ → Span
 exactly n = record { least = n; most = n }
 
+-- the table's column "parameters", as far as it counts them
 unfoldable pub spanOf : Command → Span
+-- E0, E1: "none"
 spanOf Open = exactly 0
 spanOf Close = exactly 0
+-- E2, E3: "none; 2 signed, -20..12"
 spanOf ReadPower = exactly 0
 spanOf SetPower = exactly 2
+-- E4, E5: "none; 1, 0..5"
 spanOf ReadStep = exactly 0
 spanOf SetStep = exactly 1
+-- E6, E7: "none; 1, 0..1"
 spanOf ReadMode = exactly 0
 spanOf SetMode = exactly 1
+-- E8, E9: "none; 0 to 15 bytes"
 spanOf ReadName = exactly 0
 spanOf SetName = record { least = 0; most = 15 }
+-- ED, EE: "none; 1, 0..2"
 spanOf ReadOnOff = exactly 0
 spanOf SetOnOff = exactly 1
+-- EB: "channel 2..6, type 0..1"
 spanOf SetInput = exactly 2
+-- F0: "channel 2..6"
 spanOf ReadInput = exactly 1
+-- F1: "output 1..4, 0..1"
 spanOf SwitchOutput = exactly 2
+-- F2, F3: "1: 0 or 4..59"; "none"
 spanOf SetInterval = exactly 1
 spanOf ReadInterval = exactly 0
+-- 19: "4"
 spanOf Unlock = exactly 4
+-- 1A, 1B: "none"
 spanOf ReadLock = exactly 0
 spanOf ReadModel = exactly 0
+-- 1C: "1 to 15 bytes"
 spanOf SetModel = record { least = 1; most = 15 }
+-- 23, 24: "none"
 spanOf StopSending = exactly 0
 spanOf StartSending = exactly 0
+-- 51, 52: "none; 4"
 spanOf ReadFilter = exactly 0
 spanOf SetFilter = exactly 4
+-- 53: "channel 1..6, unsigned"
 spanOf ReadPair = exactly 1
 
+-- 5B: "wrong number of parameters"
 abbrev pub countedBy : Bool → Counted
 countedBy true = Right
 countedBy false = Wrong
@@ -129,8 +147,9 @@ unfoldable pub countedOf : Command → ℕ → Counted
 unfolding spanOf
 countedOf c n = countedBy (leb (spanOf c .least) n && leb n (spanOf c .most))
 
--- ---- what of the board: E0 nothing, other BT121 commands an open configuration mode, amplifier commands a closed one
+-- ---- what a command needs of the board
 
+-- "a BT121 command other than E0 with configuration mode closed; any amplifier command with it open; 1C while locked; 19 with three wrong tries used; 19 with a wrong code": what each need asks is `accessOf` of `Judge`
 unfoldable pub needOf : Command → Need
 needOf Open = Nothing
 needOf Close = Opened
@@ -161,7 +180,7 @@ needOf ReadPair = Closed
 
 -- ---- in which range
 
--- "channel 2..6", "output 1..4": signed; "channel 1..6, unsigned"
+-- "channel 2..6", "output 1..4, 0..1": signed; "channel 1..6, unsigned", as many as the layout has
 abbrev pub inputChannel : ℕ → Range
 inputChannel b = within (pos 2) (pos 6) (signed8 b)
 
@@ -174,7 +193,7 @@ outputValue b = within (pos 0) (pos 1) (signed8 b)
 abbrev pub pairChannel : ℕ → ℕ → Range
 pairChannel most b = unsigned 1 most b
 
--- the numbers of a layout are those of its record: channels and filter bound
+-- the range of each command's parameters, "parameters from the left"; l has the numbers that differ between layouts: channels and filter bound
 unfoldable pub rangeIn : Plan → Command → List ℕ → Range
 unfolding nameRange
 rangeIn l Open p = Fits
