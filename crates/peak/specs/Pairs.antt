@@ -6,11 +6,11 @@ use lib.ListN.{getD}
 use lib.Dec.{ltb, leb, eqb}
 use Rattle.wire.specs.Numbers.{wordAt, bytes4}
 
--- neither infinite nor no number: without its sign below the pattern of the infinity
+-- neither "infinite" nor "not a number": without its sign below the pattern of the infinity
 abbrev pub finite : ℕ → Bool
 finite x = ltb (x % 0x80000000) 0x7F800000
 
--- a whole number in the order of the finite floats; both zeros have the same
+-- a whole number in the order of the finite floats; both zeros have the same, "so of -0 and +0 the earlier stays"
 unfoldable pub key : ℕ → ℕ
 key x = cond (ltb x 0x80000000) (0x80000000 + x) (0x100000000 - x)
 
@@ -18,6 +18,7 @@ key x = cond (ltb x 0x80000000) (0x80000000 + x) (0x100000000 - x)
 abbrev pub less : ℕ → ℕ → Bool
 less x y = ltb (key x) (key y)
 
+-- "The board keeps a greatest and a smallest value per channel."
 pub record Pair : Type 0 where
   pub greatest : ℕ
   pub smallest : ℕ
@@ -35,7 +36,7 @@ unfoldable pub seenAll : Bool → List Pair → List ℕ → ℕ → List Pair
 seenAll reading [] s at = []
 seenAll reading (p ∷ pairs) s at = seen reading p (wordAt s at) ∷ seenAll reading pairs s (at + 4)
 
--- so many values from a place of s on are finite
+-- "six 32-bit floats, all finite": so many values from a place of s on
 unfoldable pub allFinite : ℕ → List ℕ → ℕ → Bool
 allFinite zero s at = true
 allFinite (suc n) s at = finite (wordAt s at) && allFinite n s (at + 4)

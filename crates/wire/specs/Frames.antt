@@ -30,6 +30,7 @@ settle false s n = Wait
 settle true true n = Take n
 settle true false n = Tear
 
+-- what the hunt does, by the size that the front announces
 abbrev pub weigh : (List ℕ → Bool) → List ℕ → Size → Look
 weigh sound l NoHead = Skip
 weigh sound l NeedMore = Wait
@@ -54,11 +55,13 @@ unfoldable pub All : (Piece → Type 0) → List Piece → Type 0
 All P [] = Unit {0}
 All P (p ∷ pieces) = P p × All P pieces
 
+-- a stream cut: its pieces in their order, how many bytes were skipped, what waits
 pub record Cut : Type 0 where
   pub pieces : List Piece
   pub skipped : ℕ
   pub waiting : List ℕ
 
+-- nothing but waiting bytes
 abbrev pub stop : List ℕ → Cut
 stop l = record { pieces = []; skipped = 0; waiting = l }
 
@@ -69,9 +72,11 @@ skips k c = record { pieces = c .pieces; skipped = k + c .skipped; waiting = c .
 abbrev pub skipOne : Cut → Cut
 skipOne c = skips 1 c
 
+-- a whole frame before a cut
 abbrev pub carryOut : List ℕ → Cut → Cut
 carryOut f c = record { pieces = Whole f ∷ c .pieces; skipped = c .skipped; waiting = c .waiting }
 
+-- a broken head before a cut: its AA alone is skipped
 abbrev pub tearOne : ℕ → Cut → Cut
 tearOne h c = record { pieces = Broken h ∷ c .pieces; skipped = 1 + c .skipped; waiting = c .waiting }
 

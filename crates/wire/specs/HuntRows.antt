@@ -1,4 +1,4 @@
--- Streams of the page whose cut is told there, as one table.
+-- Examples of the cut: streams of document 01 whose cut is told there, as one table.
 use Prim.Native.Nat.{ℕ}
 use mathlib.Core.Path.{_≡_}
 use mathlib.Core.List.{List, [], _∷_}
@@ -26,6 +26,7 @@ rows =
     }
     ∷ []
 
+-- each stream is cut as its row says
 abbrev pub Holds : List Row → Type 0
 Holds [] = Unit {0}
 Holds (r ∷ rs) = (cut serial (r .stream) ≡ r .becomes) × Holds rs

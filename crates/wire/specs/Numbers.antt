@@ -17,12 +17,14 @@ word16 a b = a * 256 + b
 abbrev pub word32 : ℕ → ℕ → ℕ → ℕ → ℕ
 word32 a b c d = a * 16777216 + b * 65536 + c * 256 + d
 
+-- the number of two or four bytes at a place of s
 abbrev pub halfAt : List ℕ → ℕ → ℕ
 halfAt s at = word16 (getD s at 0) (getD s (at + 1) 0)
 
 abbrev pub wordAt : List ℕ → ℕ → ℕ
 wordAt s at = word32 (getD s at 0) (getD s (at + 1) 0) (getD s (at + 2) 0) (getD s (at + 3) 0)
 
+-- and back: the two or four bytes of a number
 abbrev pub bytes2 : ℕ → List ℕ
 bytes2 w = w / 256 % 256 ∷ w % 256 ∷ []
 
@@ -34,7 +36,7 @@ abbrev pub bytesAt : ℕ → List ℕ → ℕ → List ℕ
 bytesAt zero s at = []
 bytesAt (suc n) s at = getD s at 0 ∷ bytesAt n s (suc at)
 
--- the whole number that a byte or two bytes stand for when they are signed
+-- "One-byte parameters are signed.", "2 signed": the whole number that a byte or two bytes then stand for
 abbrev pub signed8 : ℕ → ℤ
 signed8 b = cond (ltb b 128) (pos b) (negsuc (255 - b))
 

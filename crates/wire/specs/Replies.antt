@@ -9,7 +9,7 @@ pub record Reply : Type 0 where
   pub status : ℕ
   pub body : List ℕ
 
--- 5n answers 9n, 6n answers An
+-- "5n or 6n (amplifier or BT121)": 5n answers 9n, 6n answers An
 abbrev pub kindOf : ℕ → ℕ
 kindOf head = head / 16 - 4
 

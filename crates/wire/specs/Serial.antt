@@ -21,6 +21,7 @@ front true false h = NeedMore
 front true true Bad = NoHead
 front true true (Fixed n) = Of n
 
+-- the set of heads that a byte behind the AA makes known, with the test of a whole candidate
 abbrev pub fronted : (ℕ → Head) → (List ℕ → Bool) → Heads
 fronted head sound = record { size = λ l. front (eqb (getD l 0 0) 0xAA) (ltb 1 (length l)) (head (getD l 1 0)); sound = sound }
 
@@ -28,14 +29,15 @@ fronted head sound = record { size = λ l. front (eqb (getD l 0 0) 0xAA) (ltb 1 
 abbrev pub isHead : ℕ → Bool
 isHead b = leb 0x90 b && leb b 0xAF
 
--- "Its size is 4 + n, at most 19"
+-- "Its size is 4 + n, at most 19": n is the low half of the head
 abbrev pub serialHead : ℕ → Head
 serialHead b = cond (isHead b) (Fixed (b % 16)) Bad
 
--- the last byte is 85
+-- "the last is 85"
 abbrev pub closed : List ℕ → Bool
 closed f = eqb (getD f (length f - 1) 0) 0x85
 
+-- the board's set of heads
 unfoldable pub serial : Heads
 serial = fronted serialHead closed
 
@@ -66,7 +68,7 @@ sixLines true true true true true n = Take n
 -- "All present and the last isn't 85: the AA is skipped without a reply, and the hunt goes on at the byte after that AA."
 sixLines true true true true false n = Tear
 
--- the parts of a whole frame
+-- "A frame is AA, a head byte, a number byte, n parameters, 85.": its parts
 abbrev pub headOf : List ℕ → ℕ
 headOf f = getD f 1 0
 
