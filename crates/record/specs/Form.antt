@@ -51,24 +51,33 @@ abbrev pub flagsFit : Bool → ℕ → Bool
 flagsFit true b = ltb b 16
 flagsFit false b = ltb b 16 && eqb (b % 2) 0
 
--- "Every code is well formed.": it has no test
+-- "It is well formed when each field is in its range": the tests of each part, in the words of the record's description; `Limits` has the ranges of the settings
 abbrev pub testsOf : Plan → Bool → ℕ → List ℕ → Part → List Field
+-- "length 00 7B; version 01"
 testsOf p reading at c SizeBytes = field at (eqb (halfAt c 0) (planSize p)) ∷ []
 testsOf p reading at c VersionByte = field at (eqb (getD c 0 0) (p .version)) ∷ []
+-- "flags (bit 0 open, 1 unlocked, 2 sending, 3 reading seen, others 0); tries 0..3"
 testsOf p reading at c FlagByte = field at (flagsFit (p .opens) (getD c 0 0)) ∷ []
 testsOf p reading at c TriesByte = field at (leb (getD c 0 0) 3) ∷ []
+-- "Every code is well formed.": it has no test
 testsOf p reading at c CodeWord = []
+-- "Classic power 2; LE step; mode; on/off; input types 5 (channels 2 to 6)"
 testsOf p reading at c PowerHalf = field at (fits (powerRange (halfAt c 0))) ∷ []
 testsOf p reading at c StepByte = field at (fits (stepRange (getD c 0 0))) ∷ []
 testsOf p reading at c ModeByte = field at (fits (modeRange (getD c 0 0))) ∷ []
 testsOf p reading at c OnOffByte = field at (fits (onOffRange (getD c 0 0))) ∷ []
 testsOf p reading at c InputBytes = several 5 1 (λ k. fits (inputRange (getD c k 0))) at 0
+-- "outputs (output k in bit k - 1, bits 4 to 7 zero); interval; filter word 4"
 testsOf p reading at c OutputByte = field at (ltb (getD c 0 0) 16) ∷ []
 testsOf p reading at c IntervalByte = field at (fits (intervalRange (getD c 0 0))) ∷ []
 testsOf p reading at c FilterWord = field at (fits (filterRange (p .filters) (wordAt c 0))) ∷ []
+-- "name length and 15 bytes, each at most 7F, zero behind the name"
 testsOf p reading at c NamePart = field at (leb (getD c 0 0) 15) ∷ field (at + 1) (partFits (λ l. fits (nameRange l)) (getD c 0 0) (bytesAt 15 c 1)) ∷ []
+-- "model 15, all zero from its first zero"
 testsOf p reading at c ModelPart = field at (zerosBehind (bytesAt 15 c 0)) ∷ []
+-- "pending bytes are such as the hunt can leave waiting with zeros behind"
 testsOf p reading at c PendingPart = field at (leb (getD c 0 0) (p .room)) ∷ field (at + 1) (partFits (waits (p .heads)) (getD c 0 0) (bytesAt (p .room) c 1)) ∷ []
+-- "the pairs are all zero bytes without a reading, else finite with smallest not above greatest"
 testsOf p reading at c PairsPart = several (p .channels) 8 (λ k. pairFits reading (pairAt c k)) at 0
 testsOf p reading at c CounterHalf = []
 
@@ -86,7 +95,7 @@ fieldsAt p s qs = testsBy (λ q. testsOf p (readingBy (piece p s FlagByte)) (pla
 abbrev pub fieldsIn : Plan → List ℕ → List Field
 fieldsIn p s = fieldsAt p s (p .parts)
 
--- ---- the groups that the check of the current layout goes by
+-- ---- the groups that the check of the current layout goes by; their tests are those of `testsOf`
 
 abbrev pub headFields : List ℕ → List Field
 headFields s = fieldsAt current s (SizeBytes ∷ VersionByte ∷ FlagByte ∷ TriesByte ∷ CodeWord ∷ [])

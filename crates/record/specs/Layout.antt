@@ -137,11 +137,11 @@ piece p s q = cond (has (p .parts) q) (bytesAt (width p q) s (place p q)) []
 
 -- ---- the layouts
 
--- "length 00 7B; version 01; flags; tries 0..3; code 4; Classic power 2; LE step; mode; on/off; input types 5; outputs; interval; filter word 4; name length and 15 bytes; model 15; pending length and 18 bytes; six pairs greatest, smallest"
+-- "length 00 7B; version 01; flags ..; tries 0..3; code 4; Classic power 2; LE step; mode; on/off; input types 5 (channels 2 to 6); outputs ..; interval; filter word 4; name length and 15 bytes ..; model 15 ..; pending length and 18 bytes; six pairs greatest, smallest, from channel 1 on"
 abbrev pub boardParts : List Part
 boardParts = SizeBytes ∷ VersionByte ∷ FlagByte ∷ TriesByte ∷ CodeWord ∷ PowerHalf ∷ StepByte ∷ ModeByte ∷ OnOffByte ∷ InputBytes ∷ OutputByte ∷ IntervalByte ∷ FilterWord ∷ NamePart ∷ ModelPart ∷ PendingPart ∷ PairsPart ∷ []
 
--- the board's record: version 01, 18 pending bytes, six channels, filter bits 0 to 5
+-- the board's record, "123 bytes (*house*)": version 01, 18 pending bytes, six channels, filter bits 0 to 5
 abbrev pub plan1 : Plan
 plan1 = record { version = 1; room = waitMost; heads = serial; channels = 6; filters = 64; opens = true; parts = boardParts }
 
@@ -165,6 +165,7 @@ seat = record { version = 8; room = 19; heads = seatHeads; channels = 8; filters
 abbrev pub current : Plan
 current = plan1
 
+-- 123, as `Places` and `record/src/places` have it
 abbrev pub recordSize : ℕ
 recordSize = planSize current
 
@@ -261,7 +262,7 @@ outputsByte o = nibble (o .first) (o .second) (o .third) (o .fourth)
 abbrev pub bitOf : ℕ → ℕ → Bool
 bitOf b unit = eqb (b / unit % 2) 1
 
--- ---- the bytes of a record, part by part
+-- ---- the bytes of a record, part by part; what is shorter than its room has zeros behind it
 
 abbrev pub chunk : Plan → Record → Part → List ℕ
 chunk p r SizeBytes = bytes2 (planSize p)

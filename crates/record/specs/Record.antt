@@ -30,6 +30,7 @@ pub record Settings : Type 0 where
   pub filter : ℕ
   pub name : List ℕ
 
+-- the whole of a record; the counter is of a layout that no call takes yet, and 0 in the others
 pub record Record : Type 0 where
   pub flags : Flags
   pub tries : ℕ
