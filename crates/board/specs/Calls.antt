@@ -24,6 +24,7 @@ use Rattle.call.specs.Outcome.{Outcome, done, Cause, cause, bad, inOrder}
 abbrev pub factoryCauses : List ℕ → List Cause
 factoryCauses s = cause (not (eqb (length s) recordSize)) BadRecord ∷ []
 
+-- "factory (write a new record)"
 unfoldable pub factoryCall : List ℕ → Outcome
 unfolding factory bytesOf put
 factoryCall s = inOrder (factoryCauses s) s [] (done factory [] 0 [])
@@ -32,6 +33,7 @@ factoryCall s = inOrder (factoryCauses s) s [] (done factory [] 0 [])
 abbrev pub powerOnCauses : List ℕ → List Cause
 powerOnCauses s = cause (bad (formOf s)) BadRecord ∷ []
 
+-- power-on: what it leaves is `poweredOn` of record/specs/Births
 unfoldable pub powerOnCall : List ℕ → Outcome
 unfolding poweredOn bytesOf recordOf put wellFormed
 powerOnCall s = inOrder (powerOnCauses s) s [] (done (poweredOn (recordOf s)) [] 0 [])
@@ -46,16 +48,18 @@ bytesCauses s input o =
     ∷ cause (ltb (length o) (roomFor (length (recordOf s .pending) + length input))) NoRoom
     ∷ []
 
+-- "The call returns the reply bytes written and the number of bytes skipped."
 abbrev pub served : Hunted Record Reply → List ℕ → Outcome
 served h o = done (recordAfter h) (written (h .said)) (h .skipped) o
 
+-- "bytes (received bytes in, replies out)"
 unfoldable pub bytesCall : List ℕ → List ℕ → List ℕ → Outcome
 unfolding huntOf recordAfter written bytesOf recordOf put wellFormed
 bytesCall s input o = inOrder (bytesCauses s input o) s o (served (huntOf (recordOf s) input) o)
 
 -- ---- samples
 
--- "24 bytes, six 32-bit floats"
+-- "24 bytes, six 32-bit floats, all finite"
 abbrev pub sampleSize : ℕ
 sampleSize = 4 * channels
 
@@ -63,7 +67,7 @@ sampleSize = 4 * channels
 abbrev pub frameSize : ℕ
 frameSize = 4 + sampleSize
 
--- a measuring frame of n channels; `six-channels` of `proofs/SampleEnds` shows it at six. "If sending is on, the output gets AA 15 B0, the 24 bytes, 85 (28 bytes); else nothing."
+-- "AA 15 B0, the 24 bytes, 85": a measuring frame of n channels, whose second byte is 15 at six; `six-channels` of board/proofs/SampleEnds shows it at six
 abbrev pub measured : ℕ → List ℕ → List ℕ
 measured n sample = 0xAA ∷ (0x0F + n) ∷ 0xB0 ∷ bytesAt (4 * n) sample 0 ++ (0x85 ∷ [])
 
@@ -76,10 +80,11 @@ samplesCauses s sample o =
     ∷ cause (not (allFinite channels sample 0)) NotFinite
     ∷ []
 
--- what a reading leaves, and sends
+-- "If sending is on, the output gets AA 15 B0, the 24 bytes, 85 (28 bytes); else nothing."; nothing is skipped
 abbrev pub read : Record → List ℕ → List ℕ → Outcome
 read r sample o = done (readingOf r sample) (cond (r .flags .sending) (measured channels sample) []) 0 o
 
+-- "samples (one reading of six channels in, a measuring frame out)"
 unfoldable pub samplesCall : List ℕ → List ℕ → List ℕ → Outcome
 unfolding readingOf allFinite bytesOf recordOf put wellFormed
 samplesCall s sample o = inOrder (samplesCauses s sample o) s o (read (recordOf s) sample o)

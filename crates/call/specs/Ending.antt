@@ -1,4 +1,4 @@
--- How a call ends, in words: its reasons for a refusal in their order, and the first of them decides.
+-- How a call ends, in words: its reasons for a refusal in their order, and the first of them decides. A reason is a statement; a cause of `Outcome` is the test of it.
 use Prim.Native.Nat.{ℕ}
 use mathlib.Core.Path.{_≡_}
 use mathlib.Core.Logic.{_↔_}

@@ -35,7 +35,7 @@ zeroes why = record { result = resultOf why; written = 0; skipped = 0 }
 abbrev pub refused : Ending → List ℕ → List ℕ → Outcome
 refused why s o = record { answer = zeroes why; kept = s; output = o }
 
--- "0 done; counts are bytes written and bytes skipped; output behind the written bytes is unchanged"
+-- "0 done; counts are bytes written and bytes skipped ..; output behind the written bytes is unchanged"
 abbrev pub done : Record → List ℕ → ℕ → List ℕ → Outcome
 done r out skipped o = record { answer = record { result = resultOf Done; written = length out; skipped = skipped }; kept = bytesOf r; output = put o 0 out }
 
@@ -49,7 +49,7 @@ pub record Cause : Type 0 where
 abbrev pub cause : Bool → Ending → Cause
 cause applies why = record { applies = applies; why = why }
 
--- "1: record not 123 bytes or not well formed"
+-- "1: record not 123 bytes or not well formed": what the check answers of such a record
 abbrev pub bad : Form → Bool
 bad Good = false
 bad Bad = true

@@ -1,4 +1,5 @@
 -- Demand 2 shuts out five wrong kinds of board.
+-- "Demand 2 shuts out a board that refuses everything, one that sends AA 50 00 85 to all, one that does nothing, one that carries out the first frame of a stream and only replies to the rest, and one that invents the skipped count."
 use Prim.Native.Nat.{ℕ}
 use mathlib.Core.Path.{_≡_}
 use mathlib.Core.Logic.{_≢_}

@@ -72,7 +72,7 @@ module _ (r : Record) (f : List ℕ) where
     -- and changes nothing but the tries.
     pub unchanged : stepOf r f .reply .status ≢ 0x00 → withTries (stepOf r f .after) (r .tries) ≡ r
 
--- Before any reading 53 gives 00 and eight zero bytes.
+-- "Before any reading 53 gives 00 and eight zero bytes."
 abbrev pub BeforeReading : Type 0
 BeforeReading = (r : Record) (f : List ℕ) → InRange r → r .flags .reading ≡ false → Legal r f ReadPair → Answers r f r 0x00 (0x00 ∷ replicate 8 0x00)
 
@@ -87,17 +87,17 @@ module _ (l : List ℕ) where
   Headed = (getD l 0 0 ≡ 0xAA) × (1 < length l) × (isHead (getD l 1 0) ≡ true)
 
   pub record SixLines : Type 0 where
-    -- A byte other than AA is skipped.
+    -- "A byte other than AA is skipped."
     pub other : 0 < length l → getD l 0 0 ≢ 0xAA → cut serial l ≡ skipOne (cut serial (drop 1 l))
-    -- AA with nothing behind it waits.
+    -- "AA with nothing after it waits."
     pub alone : getD l 0 0 ≡ 0xAA → length l ≡ 1 → cut serial l ≡ stop l
-    -- AA before a byte that is no head is skipped.
+    -- "AA followed by a byte that is no 9n or An: the AA is skipped."
     pub headless : getD l 0 0 ≡ 0xAA → 1 < length l → isHead (getD l 1 0) ≡ false → cut serial l ≡ skipOne (cut serial (drop 1 l))
-    -- A good head with too few bytes waits.
+    -- "A good head with fewer than 4 + n bytes present waits."
     pub unfinished : Headed → length l < 4 + announced → cut serial l ≡ stop l
-    -- All present and the last is 85: a frame, and the hunt goes on behind it.
+    -- "All present and the last is 85: the frame is carried out and replied to, and the hunt goes on behind it."
     pub frame : Headed → 4 + announced ≤ length l → getD l (3 + announced) 0 ≡ 0x85 → cut serial l ≡ carryOut (take (4 + announced) l) (cut serial (drop (4 + announced) l))
-    -- All present and the last is not 85: the AA alone is skipped.
+    -- "All present and the last isn't 85: the AA is skipped without a reply, and the hunt goes on at the byte after that AA."
     pub broken : Headed → 4 + announced ≤ length l → getD l (3 + announced) 0 ≢ 0x85 → cut serial l ≡ tearOne (getD l 1 0) (cut serial (drop 1 l))
 
 -- ---- its pieces, one after the other
@@ -111,7 +111,7 @@ pub record InTurn : Type 0 where
       runs answer r (ps ++ Whole f ∷ qs) ≡ record { state = after .state; said = before .said ++ step .reply ∷ after .said }
   -- A broken head is passed in silence.
   pub broken : (r : Record) (ps qs : List Piece) (head : ℕ) → runs answer r (ps ++ Broken head ∷ qs) ≡ runs answer r (ps ++ qs)
-  -- A reply is AA, 5n or 6n, status, n bytes, 85.
+  -- "Replies: AA, 5n or 6n (amplifier or BT121), status, n bytes, 85."
   pub reply : (a : Reply) (said : List Reply) → written (a ∷ said) ≡ 0xAA ∷ (a .kind * 16 + length (a .body)) ∷ a .status ∷ (a .body ++ 0x85 ∷ []) ++ written said
   -- A bytes call that nothing stops cuts pending bytes and input into pieces, answers them in turn, and counts what the cut skipped.
   pub call : (s input o : List ℕ) → NoReason (bytesReasons s input o)

@@ -26,6 +26,7 @@ pub record Example : Type 0 where
   pub replies : List ℕ
   pub fact : Fact
 
+-- E0, and its reply
 abbrev pub opening : List ℕ
 opening = 0xAA ∷ 0xA0 ∷ 0xE0 ∷ 0x85 ∷ []
 
@@ -43,13 +44,14 @@ wrongCodes =
     ∷ 0xAA ∷ 0x94 ∷ 0x19 ∷ 0x55 ∷ 0x53 ∷ 0x43 ∷ 0x32 ∷ 0x85
     ∷ []
 
+-- 62 to an amplifier command
 abbrev pub denied : List ℕ
 denied = 0xAA ∷ 0x50 ∷ 0x62 ∷ 0x85 ∷ []
 
 abbrev pub row : List ℕ → List ℕ → Fact → Example
 row input replies fact = record { input = input; replies = replies; fact = fact }
 
--- from a factory record; in an "open" row E0 and its reply come first
+-- "From a factory record; 'open' means after E0. Starred ones are the proved set.": in an open row E0 and its reply come first
 abbrev pub starred : List Example
 starred =
     row (0xAA ∷ 0x90 ∷ 0x23 ∷ 0x85 ∷ []) (0xAA ∷ 0x50 ∷ 0x00 ∷ 0x85 ∷ []) SendingOff
@@ -71,6 +73,7 @@ starred =
 abbrev pub run : List ℕ → Outcome
 run input = bytesCall (bytesOf factory) input (replicate 190 0)
 
+-- what a fact says of the outcome
 abbrev pub Says : Fact → Outcome → Type 0
 Says Nothing z = Unit {0}
 Says SendingOff z = recordOf (z .kept) .flags .sending ≡ false
@@ -80,6 +83,7 @@ Says (Tries n) z = recordOf (z .kept) .tries ≡ n
 Says (Skipped n) z = z .answer .skipped ≡ n
 Says (Pending n) z = length (recordOf (z .kept) .pending) ≡ n
 
+-- every row: the call is done, the replies are those of the row, and its fact is true
 abbrev pub Holds : List Example → Type 0
 Holds [] = Unit {0}
 Holds (e ∷ es) =

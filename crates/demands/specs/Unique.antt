@@ -10,6 +10,6 @@ pub record One (z : Outcome) : Type 0 where
   pub some : (x : Outcome) × Allows z x
   pub equal : (x y : Outcome) → Allows z x → Allows z y → x ≡ y
 
--- For each call, two outcomes that its contract allows for the same input are equal.
+-- For each call "two outcomes allowed by it for the same input are equal".
 abbrev pub Unique : Type 0
 Unique = (m : Made) (s : List ℕ) → One (outcomeOf m s)
