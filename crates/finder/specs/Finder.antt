@@ -1,4 +1,4 @@
--- What the finder promises, for any set of heads: the bytes that it passed are skipped, and what stands where it stopped.
+-- Inner contract: what the finder promises, for any set of heads: the bytes that it passed are skipped, and what stands where it stopped.
 use Prim.Native.Nat.{ℕ, zero, suc, _+_, _≤_, _<_}
 use mathlib.Core.Path.{_≡_}
 use mathlib.Core.Logic.{_⊎_}
