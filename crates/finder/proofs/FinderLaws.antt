@@ -1,5 +1,5 @@
 -- What the finder meets at a place, as a decision of the hunt, for the heads of any line.
-use Prim.Native.Nat.{ℕ, zero, suc, _+_, _-_, _%_, _≤_, _<_}
+use Prim.Native.Nat.{ℕ, zero, suc, _+_, _-_, _≤_, _<_}
 use mathlib.Core.Path.{_≡_, refl, sym, ap, ap₂, _∙_}
 use mathlib.Core.Logic.{_⊎_, inl, inr, ⊎-elim}
 use mathlib.Core.List.{List}
@@ -9,49 +9,21 @@ use native.Mathlib.Omega.{arith}
 use lib.ListN.{length, getD, drop, length-drop}
 use lib.Seq.{getD-drop}
 use lib.Dec.{eqb}
-use borrow.Author.Tests.{eq-eqb, ne-eqb, le-leb, lt-leb, eqb-false, not-true}
+use borrow.Author.Tests.{eq-eqb, ne-eqb, eqb-false, not-true}
 use Rattle.wire.specs.Frames.{Heads, Look, Skip, Wait, Take, Tear, look, Passed}
-use Rattle.wire.specs.Serial.{Head, Fixed, Bad, closed, serialHead, lineHead, headsOf, Noise}
+use Rattle.wire.specs.Serial.{Fixed, Bad, closed, lineHead, headsOf, Noise}
 use Rattle.wire.specs.declared.Line.{Line}
-use Rattle.wire.specs.declared.Line.the-variants.{Board}
-use Rattle.finder.specs.Finder.{announcedBy, announcedOf, quiet, Reaches, Shows, Finds}
-use Rattle.finder.specs.declared.Announced.the-variants.{Params, NoFrame}
+use Rattle.finder.specs.Finder.{quiet, Reaches, Shows, Finds}
 use Rattle.finder.specs.declared.Seen.{Seen}
 use Rattle.finder.specs.declared.Seen.the-variants.{Frame, Torn, Nothing}
 use Rattle.finder.specs.declared.Found.{Found}
 use Rattle.wire.proofs.Stretches.{before-or-not, stretch-one, stretch-on}
-use Rattle.wire.proofs.SerialLaws.{heads-of, line-short, closed-is, noise-passed, front-alone, front-headless, front-unfinished, front-torn, front-frame}
-
--- ---- the byte behind the AA
+use Rattle.wire.proofs.SerialLaws.{heads-of, closed-is, noise-passed, front-alone, front-headless, front-unfinished, front-torn, front-frame}
 
 both-by : (s t : Bool) → (s && t) ≡ true → (s ≡ true) × (t ≡ true)
 both-by true true e = (refl, refl)
 both-by true false e = let z : _≡_ {A = ℕ} 0 1 = cc in absurd (omega arith)
 both-by false t e = let z : _≡_ {A = ℕ} 0 1 = cc in absurd (omega arith)
-
-pub low-none : (b : ℕ) → b < 0x90 → NoFrame ≡ announcedBy (serialHead b)
-low-none b h = simp (lt-leb 0x90 b h)
-
-pub high-none : (b : ℕ) → 0xAF < b → NoFrame ≡ announcedBy (serialHead b)
-high-none b h = let g : 0x90 ≤ b = omega arith in simp (le-leb 0x90 b g, lt-leb b 0xAF h)
-
-pub head-params : (b : ℕ) → 0x90 ≤ b → b ≤ 0xAF → Params (b % 16) ≡ announcedBy (serialHead b)
-head-params b g h = simp (le-leb 0x90 b g, le-leb b 0xAF h)
-
--- there is no line but the board's, so a match on the line tells nothing
-pub board-line : (k : Line) (b : ℕ) → announcedBy (serialHead b) ≡ announcedOf k b
-board-line Board b = refl
-
-pub params-head : (v : Head) (n : ℕ) → announcedBy v ≡ Params n → v ≡ Fixed n
-params-head Bad n e = let z : _≡_ {A = ℕ} 0 1 = cc in absurd (omega arith)
-params-head (Fixed m) n e = cc
-
-pub none-head : (v : Head) → announcedBy v ≡ NoFrame → v ≡ Bad
-none-head Bad e = refl
-none-head (Fixed m) e = let z : _≡_ {A = ℕ} 0 1 = cc in absurd (omega arith)
-
-pub params-few : (k : Line) (b n : ℕ) → announcedOf k b ≡ Params n → n ≤ 15
-params-few k b n e = omega (arith, line-short k b n (params-head (lineHead k b) n e))
 
 -- ---- bytes that are no AA
 

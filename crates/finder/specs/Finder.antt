@@ -7,21 +7,10 @@ use mathlib.Core.List.{List}
 use lib.ListN.{getD, drop}
 use lib.Dec.{eqb}
 use Rattle.wire.specs.Frames.{Heads, look, Wait, Take, Tear, Passed}
-use Rattle.wire.specs.Serial.{Head, Bad, Fixed, lineHead, Noise}
-use Rattle.wire.specs.declared.Line.{Line}
-use Rattle.finder.specs.declared.Announced.{Announced}
-use Rattle.finder.specs.declared.Announced.the-variants.{Params, NoFrame}
+use Rattle.wire.specs.Serial.{Noise}
 use Rattle.finder.specs.declared.Seen.{Seen}
 use Rattle.finder.specs.declared.Seen.the-variants.{Frame, Torn, Nothing}
 use Rattle.finder.specs.declared.Found.{Found}
-
--- a head as the code's enum
-abbrev pub announcedBy : Head → Announced
-announcedBy Bad = NoFrame
-announcedBy (Fixed n) = Params n
-
-abbrev pub announcedOf : Line → ℕ → Announced
-announcedOf k b = announcedBy (lineHead k b)
 
 -- none of n bytes from a place on is AA
 unfoldable pub quiet : ℕ → List ℕ → ℕ → Bool

@@ -4,15 +4,11 @@ ghost use mathlib.Core.Path.{_≡_};
 ghost use Prim.Native.Nat.{_+_, _≤_, _<_};
 ghost use lib.ListN.{length};
 ghost use Rattle.wire.specs.Sizes.{streamMost};
-ghost use Rattle.wire.specs.Serial.{serialHead, headsOf, Noise};
-ghost use Rattle.finder.specs.Finder.{announcedBy, announcedOf, quiet, Reaches, Finds};
+ghost use Rattle.wire.specs.Serial.{headsOf, Noise};
+ghost use Rattle.finder.specs.Finder.{quiet, Reaches, Finds};
+use wire::Announced;
 use wire::Line;
-
-// What the byte behind an AA announces: a frame with so many parameters, or none.
-pub enum Announced {
-    Params(usize),
-    NoFrame,
-}
+use wire::heads::announced_by;
 
 // What the finder stopped at: a frame with so many parameters, a broken head, or nothing that can be decided.
 pub enum Seen {
@@ -24,27 +20,6 @@ pub enum Seen {
 pub struct Found {
     pub seen: Seen,
     pub at: usize,
-}
-
-// The board's heads: 9n and An.
-fn board_announces(b: u8) -> Announced
-    ensures { λ r. ⌜ r ≡ announcedBy (serialHead b) ⌝ }
-{
-    if b < 0x90 {
-        return Announced::NoFrame;
-    }
-    if 0xAF < b {
-        return Announced::NoFrame;
-    }
-    Announced::Params((b % 16) as usize)
-}
-
-fn announced_by(line: Line, b: u8) -> Announced
-    ensures { λ r. ⌜ r ≡ announcedOf line b ⌝ }
-{
-    match line {
-        Line::Board => board_announces(b),
-    }
 }
 
 // Whether none of eight bytes is AA.

@@ -39,6 +39,9 @@ use record::places::PENDING_ROOM;
 use record::places::RECORD_SIZE;
 use record::places::SIZE_FIELD;
 use record::places::VERSION;
+use wire::Announced;
+use wire::Line;
+use wire::heads::announced_by;
 use wire::numbers::half_at;
 use wire::numbers::word_at;
 
@@ -211,8 +214,10 @@ fn waiting_fine(s: &[u8], at: usize, n: usize) -> bool
     if n == 1 {
         return true;
     }
-    let head = s[at + 1];
-    (0x90 <= head) & (head <= 0xAF) & (n < 4 + (head % 16) as usize)
+    let Announced::Params(k) = announced_by(Line::Board, s[at + 1]) else {
+        return false;
+    };
+    n < 4 + k
 }
 
 fn pending_fine(s: &[u8]) -> bool

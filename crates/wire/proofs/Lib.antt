@@ -7,3 +7,4 @@ pub mod AlongLaws
 pub mod PutLaws
 pub mod ReplyLaws
 pub mod HuntRows
+pub mod HeadLaws

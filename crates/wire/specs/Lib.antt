@@ -6,3 +6,4 @@ pub mod Serial
 pub mod Replies
 pub mod Run
 pub mod HuntRows
+pub mod Heads

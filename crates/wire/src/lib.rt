@@ -1,5 +1,6 @@
-// Bytes on the wire: sizes, numbers, buffers, replies.
+// Bytes on the wire: sizes, heads, numbers, buffers, replies.
 pub mod buffer;
+pub mod heads;
 pub mod numbers;
 pub mod reply;
 pub mod sizes;
@@ -14,4 +15,10 @@ pub enum Range {
 // Whose heads a stream is hunted for.
 pub enum Line {
     Board,
+}
+
+// What the byte behind an AA announces: a frame with so many parameters, or none.
+pub enum Announced {
+    Params(usize),
+    NoFrame,
 }

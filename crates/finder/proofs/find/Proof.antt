@@ -3,10 +3,11 @@ use Rattle.wire.specs.Frames.{Passed}
 use Rattle.wire.specs.Serial.{headsOf}
 use Rattle.wire.specs.declared.Line.{Line}
 use Rattle.wire.proofs.Stretches.{stretch-none, stretch-one}
-use Rattle.finder.specs.Finder.{announcedOf}
-use Rattle.finder.specs.declared.Announced.the-variants.{Params}
+use Rattle.wire.specs.Heads.{announcedOf}
+use Rattle.wire.specs.declared.Announced.the-variants.{Params}
 use Rattle.finder.specs.declared.Seen.the-variants.{Nothing}
-use Rattle.finder.proofs.FinderLaws.{passed-noise, reached, look-alone, look-headless, params-head, none-head, params-few, Candidate, scan-waits, scan-torn, scan-frame, scan-last, lesser-least, finds-end, finds-waiting}
+use Rattle.wire.proofs.HeadLaws.{params-head, none-head, params-few}
+use Rattle.finder.proofs.FinderLaws.{passed-noise, reached, look-alone, look-headless, Candidate, scan-waits, scan-torn, scan-frame, scan-last, lesser-least, finds-end, finds-waiting}
 use borrow.Author.Needs.{needs}
 use lib.ListN.{length, getD}
 use Prim.Native.Nat.{ℕ, _+_, _-_, _≤_, _<_}

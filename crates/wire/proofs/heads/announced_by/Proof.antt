@@ -1,8 +1,8 @@
 use borrow.Author.Needs.{needs}
 use mathlib.Core.Path.{_∙_}
-use Rattle.finder.proofs.FinderLaws.{board-line}
-use Rattle.finder.proofs.announced_by.Statement.{statement}
-use Rattle.finder.proofs.announced_by.Tie as tie
+use Rattle.wire.proofs.HeadLaws.{board-line}
+use Rattle.wire.proofs.heads.announced_by.Statement.{statement}
+use Rattle.wire.proofs.heads.announced_by.Tie as tie
 
 board-announces-requires : tie.Need-board-announces-requires
 board-announces-requires c κs = search needs

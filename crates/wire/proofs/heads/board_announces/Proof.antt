@@ -1,8 +1,8 @@
-use Rattle.finder.proofs.FinderLaws.{low-none, high-none, head-params}
+use Rattle.wire.proofs.HeadLaws.{low-none, high-none, head-params}
 use native.Mathlib.Omega.{arith}
 use borrow.Author.Needs.{needs}
-use Rattle.finder.proofs.board_announces.Statement.{statement}
-use Rattle.finder.proofs.board_announces.Tie as tie
+use Rattle.wire.proofs.heads.board_announces.Statement.{statement}
+use Rattle.wire.proofs.heads.board_announces.Tie as tie
 
 returns : tie.Need-returns
 returns c = low-none (c .before .args .b) (c .if1 .taken)

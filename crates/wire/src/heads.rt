@@ -1,0 +1,27 @@
+// The heads of each line, told once: the hunt and the check of a record both go by them.
+ghost use mathlib.Core.Path.{_≡_};
+ghost use Rattle.wire.specs.Serial.{serialHead};
+ghost use Rattle.wire.specs.Heads.{announcedBy, announcedOf};
+use crate::Announced;
+use crate::Line;
+
+// The board's heads: 9n and An.
+fn board_announces(b: u8) -> Announced
+    ensures { λ r. ⌜ r ≡ announcedBy (serialHead b) ⌝ }
+{
+    if b < 0x90 {
+        return Announced::NoFrame;
+    }
+    if 0xAF < b {
+        return Announced::NoFrame;
+    }
+    Announced::Params((b % 16) as usize)
+}
+
+pub fn announced_by(line: Line, b: u8) -> Announced
+    ensures { λ r. ⌜ r ≡ announcedOf line b ⌝ }
+{
+    match line {
+        Line::Board => board_announces(b),
+    }
+}
