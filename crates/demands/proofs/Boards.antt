@@ -1,11 +1,11 @@
 -- What the bytes call does that each of the wrong boards does not, and such boards.
 use Prim.Native.Nat.{ℕ}
-use mathlib.Core.Path.{_≡_, refl, sym, ap, subst, fun-ext}
+use mathlib.Core.Path.{_≡_, refl, sym, ap, subst, fun-ext, _∙_}
 use mathlib.Core.List.{List, [], _∷_, _++_}
 use native.Mathlib.Omega.{arith}
 use lib.ListN.{length, getD, replicate}
 use Rattle.wire.specs.Numbers.{put}
-use Rattle.wire.specs.Frames.{Piece, Whole, Broken, cutFrom, cut}
+use Rattle.wire.specs.Frames.{Piece, Whole, Broken, Cut, cutFrom, cut}
 use Rattle.wire.specs.Serial.{serial}
 use Rattle.wire.proofs.CutLaws.{packets}
 use Rattle.wire.proofs.SerialLaws.{serial-steady}
@@ -50,7 +50,7 @@ no-idler h = let z : _≡_ {A = ℕ} 0 12 = ap (λ (g : Settings). g .power) (h 
 -- after 23 the board is opened
 no-starter : ¬ FirstOnly bytesCall
 unfolding bytesCall factory bytesOf recordOf cutFrom serial
-no-starter h = let z : _≡_ {A = ℕ} 1 0 = ap (λ (s : List ℕ). getD s atFlags 0) (h (bytesOf factory) stop opening room refl refl) in omega arith
+no-starter h = let z : _≡_ {A = ℕ} 1 0 = ap (λ (s : List ℕ). getD s atFlags 0) (h (bytesOf factory) stop opening room refl refl refl refl refl) in omega arith
 
 -- a call that is done gives the cut's count
 no-inventor : ¬ InventsCount bytesCall
@@ -78,6 +78,10 @@ first (Broken head ∷ ps) = []
 first-of : (f g : List ℕ) → Frame f → first (cut serial (f ++ g) .pieces) ≡ f
 first-of f g e = rw (packets serial serial-steady f g, e) refl
 
+-- it replies to every frame and carries out the first
+abbrev replies-on : Board
+replies-on s f o = record { answer = bytesCall s f o .answer; kept = bytesCall s (first (cut serial f .pieces)) o .kept; output = bytesCall s f o .output }
+
 says : Board
 says s f o = record { answer = record { result = 0; written = 4; skipped = 0 }; kept = s; output = put o 0 (0xAA ∷ 0x50 ∷ 0x00 ∷ 0x85 ∷ []) }
 
@@ -91,6 +95,6 @@ kinds-exist = record {
   refuser = (λ s f o. refused BadRecord s o, λ s f o e n d. absurd (omega arith));
   sayer = (says, always-says);
   idler = (λ s f o. refused Done s o, λ s f o. refl);
-  starter = (λ s f o. bytesCall s (first (cut serial f .pieces)) o, λ s f g o a b. rw (first-of f g a, a) refl);
+  starter = (replies-on, λ s f g o a b n p q. ap (λ (l : List ℕ). bytesCall s l o .kept) (first-of f g a ∙ sym (ap (λ (c : Cut). first (c .pieces)) a)));
   inventor = (λ s f o. record { answer = record { result = 0; written = 0; skipped = 1 }; kept = s; output = o }, ([], [], [], refl, λ e. let z : _≡_ {A = ℕ} 1 0 = e in omega arith));
 }

@@ -37,9 +37,9 @@ module _ (b : Board) where
   abbrev pub DoesNothing : Type 0
   DoesNothing = (s input o : List ℕ) → recordOf (b s input o .kept) .settings ≡ recordOf s .settings
 
-  -- a second frame changes nothing more
+  -- a second frame, replied to or not, changes nothing more
   abbrev pub FirstOnly : Type 0
-  FirstOnly = (s f g o : List ℕ) → Frame f → Frame g → b s (f ++ g) o .kept ≡ b s f o .kept
+  FirstOnly = (s f g o : List ℕ) → Frame f → Frame g → recordOf s .pending ≡ [] → b s f o .answer .result ≡ 0 → b s (f ++ g) o .answer .result ≡ 0 → b s (f ++ g) o .kept ≡ b s f o .kept
 
   -- a call that is done may give a skipped count that is not the cut's
   abbrev pub InventsCount : Type 0

@@ -1,4 +1,4 @@
--- The same with the record in its bytes.
+-- How far the hunting code has come, with the record in its bytes.
 use Prim.Native.Nat.{ℕ, _+_, _-_, _*_, _/_, _≤_}
 use mathlib.Core.Path.{_≡_, subst}
 use mathlib.Core.List.{List}

@@ -1,4 +1,4 @@
--- The same in the current version, in the words of the code: what is at a literal place holds by computing, the rest is the general law.
+-- Reading and storing each field in the layout in use, in the words of the code: what is at a literal place holds by computing, the rest is the general law.
 use Prim.Native.Nat.{ℕ, _+_, _*_, _<_}
 use mathlib.Core.Path.{_≡_, refl}
 use lib.ListN.{length, getD, set}
