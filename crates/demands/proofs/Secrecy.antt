@@ -1,9 +1,10 @@
 -- Two boards that differ in nothing but perhaps the code: one call, then any list of calls.
-use Prim.Native.Nat.{ℕ, _≤_}
+use Prim.Native.Nat.{ℕ, zero, suc, _≤_}
 use mathlib.Core.Path.{_≡_, refl, ap}
 use mathlib.Core.List.{List, [], _∷_}
 use native.Mathlib.Omega.{arith}
 use lib.ListN.{getD}
+use Rattle.wire.specs.Numbers.{Bytes}
 use Rattle.wire.specs.Frames.{cutFrom}
 use Rattle.wire.specs.Serial.{serial}
 use Rattle.record.specs.Record.{withCode}
@@ -14,7 +15,7 @@ use Rattle.command.proofs.Compare.{compares-exactly}
 use Rattle.board.specs.Calls.{bytesCall}
 use Rattle.demands.specs.Premise.{Compared}
 use Rattle.demands.specs.Calls.{Made, callOf, outcomeOf}
-use Rattle.demands.specs.Secrecy.{AllHushed, OneCall, NothingTold, NoReset, NothingToldUsedUp, PremiseMet, PremiseNeeded}
+use Rattle.demands.specs.Secrecy.{thirdCode, AllHushed, OneCall, NothingTold, NoReset, NothingToldUsedUp, PremiseMet, PremiseNeeded}
 use Rattle.demands.proofs.OtherCode.{code-only}
 use Rattle.demands.proofs.Laws.{bytes-by, alike-by, hushed-by, used-by}
 use Rattle.demands.proofs.AllLaws.{laws-of}
@@ -48,6 +49,17 @@ pub compared : Compared
 unfolding compares withCode
 compared = record { exactly = compares-exactly; alike = λ r k f. refl }
 
+third-bytes : Bytes thirdCode
+third-bytes zero = omega arith
+third-bytes (suc zero) = omega arith
+third-bytes (suc (suc zero)) = omega arith
+third-bytes (suc (suc (suc zero))) = omega arith
+third-bytes (suc (suc (suc (suc zero)))) = omega arith
+third-bytes (suc (suc (suc (suc (suc zero))))) = omega arith
+third-bytes (suc (suc (suc (suc (suc (suc zero)))))) = omega arith
+third-bytes (suc (suc (suc (suc (suc (suc (suc zero))))))) = omega arith
+third-bytes (suc (suc (suc (suc (suc (suc (suc (suc i)))))))) = omega arith
+
 pub premise-met : PremiseMet
 unfolding bytesCall bytesOf recordOf factory withCode cutFrom serial compares
 premise-met = record {
@@ -55,7 +67,9 @@ premise-met = record {
   differ = λ e. let z : _≡_ {A = ℕ} 0x55 0x01 = ap (λ (s : List ℕ). getD s atCode 0) e in omega arith;
   done = refl;
   compared = refl;
-  quiet = (λ e. ((λ c. ((λ z. omega arith), λ z. omega arith)), tt), tt);
+  given = (third-bytes, ((λ i. omega arith), tt));
+  quiet = (λ e. ((λ c. ((λ z. omega arith), λ z. omega arith)), tt), (tt, tt));
+  no-reset = (refl, (refl, tt));
 }
 
 pub premise-needed : PremiseNeeded

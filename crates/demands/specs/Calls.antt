@@ -80,34 +80,32 @@ power-on = record {
   resets = true;
 }
 
+-- a call over an input and an output buffer, which gives no new tries
+abbrev pub buffered : (List ℕ → List ℕ → List ℕ → List Reason) → (List ℕ → List ℕ → List ℕ → Outcome) → (Buffers → List ℕ → List ℕ → Type 0) → Call
+buffered reasons outcome hushed = record {
+  Lent = Buffers;
+  output = λ l. l .output;
+  Given = λ l. Bytes (l .input);
+  reasons = λ l s. reasons s (l .input) (l .output);
+  outcome = λ l s. outcome s (l .input) (l .output);
+  Hushed = hushed;
+  resets = false;
+}
+
 abbrev pub bytesReasons : List ℕ → List ℕ → List ℕ → List Reason
 bytesReasons s input o = reason (Malformed s) BadRecord ∷ reason (TooLong input) BadLength ∷ reason (Cramped s input o) NoRoom ∷ []
 
 -- a call that is refused compares nothing
 abbrev pub bytes : Call
-bytes = record {
-  Lent = Buffers;
-  output = λ l. l .output;
-  Given = λ l. Bytes (l .input);
-  reasons = λ l s. bytesReasons s (l .input) (l .output);
-  outcome = λ l s. bytesCall s (l .input) (l .output);
-  Hushed = λ l s t. bytesCall s (l .input) (l .output) .answer .result ≡ 0 → QuietRun (recordOf s) (recordOf t) (cut serial (recordOf s .pending ++ l .input) .pieces);
-  resets = false;
-}
+bytes =
+    buffered bytesReasons bytesCall
+    (λ l s t. bytesCall s (l .input) (l .output) .answer .result ≡ 0 → QuietRun (recordOf s) (recordOf t) (cut serial (recordOf s .pending ++ l .input) .pieces))
 
 abbrev pub samplesReasons : List ℕ → List ℕ → List ℕ → List Reason
 samplesReasons s sample o = reason (Malformed s) BadRecord ∷ reason (length sample ≢ sampleSize) BadLength ∷ reason (length o < frameSize) NoRoom ∷ reason (Stray sample) NotFinite ∷ []
 
 abbrev pub samples : Call
-samples = record {
-  Lent = Buffers;
-  output = λ l. l .output;
-  Given = λ l. Bytes (l .input);
-  reasons = λ l s. samplesReasons s (l .input) (l .output);
-  outcome = λ l s. samplesCall s (l .input) (l .output);
-  Hushed = λ l s t. Unit {0};
-  resets = false;
-}
+samples = buffered samplesReasons samplesCall (λ l s t. Unit {0})
 
 -- ---- their list: a new call is one more name here, and its laws
 

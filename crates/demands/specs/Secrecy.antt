@@ -12,7 +12,7 @@ use Rattle.record.specs.Births.{factory}
 use Rattle.command.specs.Compare.{compares}
 use Rattle.board.specs.Calls.{bytesCall}
 use Rattle.demands.specs.Premise.{SameButCode, Alike}
-use Rattle.demands.specs.Calls.{Receive, callOf, Made, outcomeOf}
+use Rattle.demands.specs.Calls.{Receive, Sample, callOf, Made, outcomeOf}
 use Rattle.demands.specs.Examples.{rightCode}
 
 -- ---- calls made one after the other
@@ -66,13 +66,19 @@ thirdCode = 0xAA ∷ 0x94 ∷ 0x19 ∷ 0x11 ∷ 0x22 ∷ 0x33 ∷ 0x44 ∷ 0x85 
 abbrev pub room : List ℕ
 room = replicate 38 0x00
 
--- The boards have different codes, the command is compared, and the premise holds.
+-- the command sent, and a reading
+abbrev pub harmless : List Made
+harmless = record { name = Receive; lent = record { input = thirdCode; output = room } } ∷ record { name = Sample; lent = record { input = []; output = [] } } ∷ []
+
+-- The boards have different codes, the command is compared, the premise holds, and neither of the two calls gives new tries.
 pub record PremiseMet : Type 0 where
   pub pair : SameButCode ours theirs
   pub differ : ours ≢ theirs
   pub done : bytesCall ours thirdCode room .answer .result ≡ 0
   pub compared : compares (recordOf ours) thirdCode ≡ true
-  pub quiet : AllHushed ours theirs (record { name = Receive; lent = record { input = thirdCode; output = room } } ∷ [])
+  pub given : AllGiven harmless
+  pub quiet : AllHushed ours theirs harmless
+  pub no-reset : NoReset harmless
 
 -- The code of one of them tells them apart.
 abbrev pub PremiseNeeded : Type 0
