@@ -20,11 +20,11 @@ use Rattle.command.specs.declared.Refusal.the-variants.{Unknown, Unbuilt
 use Rattle.command.specs.declared.Verdict.{Verdict}
 use Rattle.command.specs.declared.Verdict.the-variants.{Do, Refuse}
 use Rattle.command.specs.Tables.{listedOf, countedOf, needOf, rangeOf}
-use Rattle.command.specs.Judge.{statusOf, accessOf, byRange, byAccess, byCount, byNumber, verdictOf}
+use Rattle.command.specs.Judge.{statusOf, accessOf, byRange, byAccess, byCount, byNumber, judged, verdictOf}
 use Rattle.command.specs.Effects.{effectOf, dataOf}
 use Rattle.command.specs.Step.{leftBy, settled, stepBy, stepOf}
 
-pub verdict-is : (r : Record) (head number : ℕ) (p : List ℕ) → verdictOf r head number p ≡ byNumber r p (listedOf head number)
+pub verdict-is : (r : Record) (head number : ℕ) (p : List ℕ) → verdictOf r head number p ≡ byNumber (listedOf head number) (judged r p)
 unfolding verdictOf
 verdict-is r head number p = refl
 
@@ -59,21 +59,21 @@ module _ (r : Record) (head number : ℕ) (p : List ℕ) where
   pub checks : Checks (verdictOf r head number p)
   checks = rw (verdict-is r head number p) (by-number (listedOf head number) refl)
     where
-      by-range : (c : Command) → listedOf head number ≡ Built c → countedOf c (length p) ≡ Right → accessOf (needOf c) r p ≡ Given → (x : Range) → rangeOf c p ≡ x → Checks (byRange c x)
+      by-range : (c : Command) → listedOf head number ≡ Built c → countedOf c (length p) ≡ Right → accessOf (needOf c) r p ≡ Given → (x : Range) → rangeOf c p ≡ x → Checks (byRange x (Do c))
       by-range c l n a Fits e = (l, n, a, e)
       by-range c l n a Big e = (c, l, n, a, e)
       by-range c l n a Small e = (c, l, n, a, e)
 
-      by-access : (c : Command) → listedOf head number ≡ Built c → countedOf c (length p) ≡ Right → (x : Access) → accessOf (needOf c) r p ≡ x → Checks (byAccess c p x)
+      by-access : (c : Command) → listedOf head number ≡ Built c → countedOf c (length p) ≡ Right → (x : Access) → accessOf (needOf c) r p ≡ x → Checks (byAccess x (byRange (rangeOf c p) (Do c)))
       by-access c l n Given e = by-range c l n e (rangeOf c p) refl
       by-access c l n Missing e = (c, l, n, e)
       by-access c l n WrongCode e = (c, l, n, e)
 
-      by-count : (c : Command) → listedOf head number ≡ Built c → (x : Counted) → countedOf c (length p) ≡ x → Checks (byCount c r p x)
+      by-count : (c : Command) → listedOf head number ≡ Built c → (x : Counted) → countedOf c (length p) ≡ x → Checks (byCount x (byAccess (accessOf (needOf c) r p) (byRange (rangeOf c p) (Do c))))
       by-count c l Right e = by-access c l e (accessOf (needOf c) r p) refl
       by-count c l Wrong e = (c, l, e)
 
-      by-number : (x : Listed) → listedOf head number ≡ x → Checks (byNumber r p x)
+      by-number : (x : Listed) → listedOf head number ≡ x → Checks (byNumber x (judged r p))
       by-number (Built c) e = by-count c e (countedOf c (length p)) refl
       by-number NotBuilt e = e
       by-number Unlisted e = e

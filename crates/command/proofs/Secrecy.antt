@@ -16,8 +16,10 @@ use Rattle.command.specs.declared.Counted.{Counted}
 use Rattle.command.specs.declared.Counted.the-variants.{Right, Wrong}
 use Rattle.command.specs.declared.Need.{Need}
 use Rattle.command.specs.declared.Need.the-variants.{Nothing, Opened, Closed, Unlocked, Code}
-use Rattle.command.specs.Tables.{listedOf, countedOf, needOf}
-use Rattle.command.specs.Judge.{accessOf, byAccess, byCount, byNumber, verdictOf}
+use Rattle.command.specs.declared.Access.{Access}
+use Rattle.command.specs.declared.Verdict.the-variants.{Do}
+use Rattle.command.specs.Tables.{listedOf, countedOf, needOf, rangeOf}
+use Rattle.command.specs.Judge.{accessOf, byRange, byAccess, byCount, byNumber, judged, verdictOf}
 use Rattle.command.specs.Step.{stepOf}
 use Rattle.command.specs.Compare.{isRight, isCode, unlocking, compares, carried}
 use Rattle.command.proofs.Refused.{verdict-is, verdict, step-is}
@@ -43,11 +45,12 @@ module _ (r : Record) (k : ℕ) (p : List ℕ) where
           let apart = h (rw (e, t) refl) in
           cc (ne-eqb (wordAt p 0) (r .code) (apart .0), ne-eqb (wordAt p 0) k (apart .1))
 
-  count-same : (c : Command) (x : Counted) → Apart (isRight x && isCode (needOf c)) → byCount c (withCode r k) p x ≡ byCount c r p x
-  count-same c Right h = ap (byAccess c p) (access-same (needOf c) h)
+  count-same : (c : Command) (x : Counted) → Apart (isRight x && isCode (needOf c))
+      → byCount x (byAccess (accessOf (needOf c) (withCode r k) p) (byRange (rangeOf c p) (Do c))) ≡ byCount x (byAccess (accessOf (needOf c) r p) (byRange (rangeOf c p) (Do c)))
+  count-same c Right h = ap (λ (a : Access). byAccess a (byRange (rangeOf c p) (Do c))) (access-same (needOf c) h)
   count-same c Wrong h = refl
 
-  number-same : (x : Listed) → Apart (unlocking p x) → byNumber (withCode r k) p x ≡ byNumber r p x
+  number-same : (x : Listed) → Apart (unlocking p x) → byNumber x (judged (withCode r k) p) ≡ byNumber x (judged r p)
   number-same (Built c) h = count-same c (countedOf c (length p)) h
   number-same NotBuilt h = refl
   number-same Unlisted h = refl

@@ -1,4 +1,4 @@
--- The refusals, in their order: the first that applies is the reply. A frame goes through `byNumber`, `byCount`, `byAccess` and `byRange`; each stands above the one that asks it.
+-- The refusals, in their order: the first that applies is the reply.
 use Prim.Native.Nat.{ℕ}
 use mathlib.Core.Bool.{cond}
 use mathlib.Core.List.{List}
@@ -50,30 +50,36 @@ accessOf Unlocked r p = cond (r .flags .opened) Missing (cond (r .flags .unlocke
 -- 2, 4, 5
 accessOf Code r p = cond (r .flags .opened) Missing (cond (leb 3 (r .tries)) Missing (cond (eqb (wordAt p 0) (r .code)) Given WrongCode))
 
--- 54, 55: the last check; what passes it is done
-abbrev pub byRange : Command → Range → Verdict
-byRange c Fits = Do c
-byRange c Big = Refuse TooBig
-byRange c Small = Refuse TooSmall
+-- ---- "In this order; the first that applies is the reply": a check refuses, or the next one is asked
 
--- 62, then 54, 55
-abbrev pub byAccess : Command → List ℕ → Access → Verdict
-byAccess c p Given = byRange c (rangeOf c p)
-byAccess c p Missing = Refuse NoAccess
-byAccess c p WrongCode = Refuse BadCode
+-- "40 number not listed for this head", "41 listed as known but not built"
+abbrev pub byNumber : Listed → (Command → Verdict) → Verdict
+byNumber Unlisted next = Refuse Unknown
+byNumber NotBuilt next = Refuse Unbuilt
+byNumber (Built c) next = next c
 
--- 5B, then 62
-abbrev pub byCount : Command → Record → List ℕ → Counted → Verdict
-byCount c r p Right = byAccess c p (accessOf (needOf c) r p)
-byCount c r p Wrong = Refuse Parameters
+-- "5B wrong number of parameters"
+abbrev pub byCount : Counted → Verdict → Verdict
+byCount Wrong next = Refuse Parameters
+byCount Right next = next
 
--- 40, 41, then 5B
-abbrev pub byNumber : Record → List ℕ → Listed → Verdict
-byNumber r p (Built c) = byCount c r p (countedOf c (length p))
-byNumber r p NotBuilt = Refuse Unbuilt
-byNumber r p Unlisted = Refuse Unknown
+-- "62 access"
+abbrev pub byAccess : Access → Verdict → Verdict
+byAccess Missing next = Refuse NoAccess
+byAccess WrongCode next = Refuse BadCode
+byAccess Given next = next
 
--- "In this order; the first that applies is the reply": the verdict on a number under a head with the parameters p
+-- "54 / 55 parameter too big / too small"
+abbrev pub byRange : Range → Verdict → Verdict
+byRange Big next = Refuse TooBig
+byRange Small next = Refuse TooSmall
+byRange Fits next = next
+
+-- a built command with the parameters p
+abbrev pub judged : Record → List ℕ → Command → Verdict
+judged r p c = byCount (countedOf c (length p)) (byAccess (accessOf (needOf c) r p) (byRange (rangeOf c p) (Do c)))
+
+-- a number under a head with the parameters p
 unfoldable pub verdictOf : Record → ℕ → ℕ → List ℕ → Verdict
 unfolding listedOf spanOf countedOf needOf accessOf rangeOf
-verdictOf r head number p = byNumber r p (listedOf head number)
+verdictOf r head number p = byNumber (listedOf head number) (judged r p)

@@ -25,7 +25,7 @@ use Rattle.command.specs.declared.Refusal.{Refusal}
 use Rattle.command.specs.declared.Refusal.the-variants.{Unknown, Unbuilt, Parameters, NoAccess, BadCode, TooBig, TooSmall}
 use Rattle.command.specs.declared.Verdict.{Verdict}
 use Rattle.command.specs.declared.Verdict.the-variants.{Do, Refuse}
-use Rattle.command.specs.Judge.{statusOf, byNumber}
+use Rattle.command.specs.Judge.{statusOf, byNumber, judged}
 use Rattle.command.specs.Effects.{effectOf, dataOf}
 use Rattle.command.specs.Step.{stepOf, leftBy, settled, answer}
 use Rattle.command.proofs.Refused.{verdict-is, verdict, step-is, passed, takes-effect, refused-silent}
@@ -38,11 +38,11 @@ use Rattle.demands.proofs.SamplesLaws.{samples-done}
 
 module _ (r : Record) (f : List ℕ) where
   -- a verdict that stands, and what it makes of the frame
-  judged : (v : Verdict) → verdict r f ≡ v → stepOf r f ≡ settled r (headOf f) (paramsOf f) v
-  judged v e = step-is r f ∙ ap (settled r (headOf f) (paramsOf f)) e
+  stands : (v : Verdict) → verdict r f ≡ v → stepOf r f ≡ settled r (headOf f) (paramsOf f) v
+  stands v e = step-is r f ∙ ap (settled r (headOf f) (paramsOf f)) e
 
-  refused : (why : Refusal) → byNumber r (paramsOf f) (number r f) ≡ Refuse why → stepOf r f ≡ settled r (headOf f) (paramsOf f) (Refuse why)
-  refused why e = judged (Refuse why) (verdict-is r (headOf f) (numberOf f) (paramsOf f) ∙ e)
+  refused : (why : Refusal) → byNumber (number r f) (judged r (paramsOf f)) ≡ Refuse why → stepOf r f ≡ settled r (headOf f) (paramsOf f) (Refuse why)
+  refused why e = stands (Refuse why) (verdict-is r (headOf f) (numberOf f) (paramsOf f) ∙ e)
 
   legal-done : (c : Command) → Legal r f c → verdict r f ≡ Do c
   legal-done c h = takes-effect r (headOf f) (numberOf f) (paramsOf f) c .1 h
@@ -71,14 +71,14 @@ module _ (r : Record) (f : List ℕ) where
   zero-legal (Refuse why) e z = absurd (no-zero why (sym (refused-silent r f why e .0) ∙ z))
 
   kept-by : (v : Verdict) → verdict r f ≡ v → stepOf r f .reply .status ≢ 0x00 → withTries (stepOf r f .after) (r .tries) ≡ r
-  kept-by (Do c) e z = absurd (z (ap (λ q. q .reply .status) (judged (Do c) e)))
+  kept-by (Do c) e z = absurd (z (ap (λ q. q .reply .status) (stands (Do c) e)))
   kept-by (Refuse why) e z = rw (refused-silent r f why e .2) (tries-back why)
 
   carried : Carried r f
   unfolding leftBy
   carried = record {
-    exactly = (zero-legal (verdict r f) refl, λ h. rw (judged (Do (h .0)) (legal-done (h .0) (h .1))) refl);
-    effect = λ c h. judged (Do c) (legal-done c h);
+    exactly = (zero-legal (verdict r f) refl, λ h. rw (stands (Do (h .0)) (legal-done (h .0) (h .1))) refl);
+    effect = λ c h. stands (Do c) (legal-done c h);
     unknown = λ n. refused Unknown (rw n refl);
     unbuilt = λ n. refused Unbuilt (rw n refl);
     miscounted = λ c n p. refused Parameters (rw (n, p) refl);
