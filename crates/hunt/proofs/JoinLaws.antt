@@ -1,29 +1,29 @@
--- The joined head of a stream, as the code builds it and hands it on.
+-- The joined head of a stream, as the code builds it and hands it on, for any set of heads.
 use Prim.Native.Nat.{ℕ, _+_, _-_, _≤_, _<_}
 use mathlib.Core.Path.{_≡_, refl, sym, ap, _∙_, subst}
 use mathlib.Core.List.{List, _++_}
 use native.Mathlib.Omega.{arith}
 use lib.ListN.{length, getD, take, drop, length-append, length-drop}
 use lib.Seq.{take-at, take-all, length-take-le, take-take}
-use Rattle.wire.specs.Sizes.{frameMost, joinMost}
+use Rattle.wire.specs.Sizes.{frameMost, waitMost, joinMost}
 use Rattle.hunt.specs.Hunt.{roomFor}
 use Rattle.wire.specs.Numbers.{put}
-use Rattle.wire.specs.Serial.{serial}
+use Rattle.wire.specs.Frames.{Heads}
 use Rattle.wire.specs.Replies.{Reply}
 use Rattle.wire.proofs.NumberLaws.{part-is, drop-take}
 use Rattle.wire.proofs.PutLaws.{put-put, put-zero}
-use Rattle.wire.proofs.SerialLaws.{pending-short}
+use Rattle.wire.proofs.SerialLaws.{Huntable, pending-short}
 use Rattle.wire.proofs.AlongLaws.{stopped}
 use Rattle.record.specs.Record.{Record, withPending}
-use Rattle.record.specs.Layout.{recordSize, pendingRoom, atPending, atWaiting, atPairs, recordOf}
+use Rattle.record.specs.Layout.{recordSize, pendingRoom, atPending, atWaiting, recordOf}
 use Rattle.record.specs.Place.{Sound, Turns}
 use Rattle.record.proofs.PlaceLaws.{holds-long}
 use Rattle.record.proofs.Lens.{get-pending-length}
 use Rattle.command.specs.Step.{answer}
-use Rattle.hunt.specs.Progress.{Hunts, Rests, Joins, Serves}
+use Rattle.hunt.specs.Progress.{Hunts, Rests, Joins}
 use Rattle.hunt.specs.declared.Progress.{Progress}
 use Rattle.hunt.proofs.GoingLaws.{going-kept}
-use Rattle.hunt.proofs.ServeLaws.{halted-short, head-short, serves-head, rest-starts, rest-room, serves-rest}
+use Rattle.hunt.proofs.ServeLaws.{Ends, halted-short, head-short, ends-head, rest-starts, rest-room, ends-rest}
 
 abbrev reached : List ℕ → ℕ
 reached i = length i - (length i - frameMost)
@@ -31,25 +31,26 @@ reached i = length i - (length i - frameMost)
 pub reach-long : (n : ℕ) (i : List ℕ) → n ≡ reached i → length (take n i) ≡ n
 reach-long n i e = length-take-le n i (omega arith)
 
-pub held-long : (s : List ℕ) (held : ℕ) → atPairs ≤ length s → held ≤ pendingRoom → length (take (atWaiting + held - atWaiting) (drop atWaiting s)) ≡ held
-held-long s held h k =
-    let m : atWaiting + held - atWaiting ≡ held = omega arith in
-    rw m (length-take-le held (drop atWaiting s) (rw (length-drop atWaiting s) (omega arith)))
+module _ (s : List ℕ) (at held : ℕ) (inside : at + held ≤ length s) where
+  part-held : take (at + held - at) (drop at s) ≡ take held (drop at s)
+  part-held = let m : at + held - at ≡ held = omega arith in rw m refl
 
--- two parts copied one behind the other
-pub joined-is : (s input d x y : List ℕ) (held n end total : ℕ) → atPairs ≤ length s → held ≤ pendingRoom → length d ≡ joinMost → n ≡ reached input
-    → end ≡ 0 + length (take (atWaiting + held - atWaiting) (drop atWaiting s)) → x ≡ put d 0 (take (atWaiting + held - atWaiting) (drop atWaiting s))
-    → total ≡ end + length (take n input) → y ≡ put x end (take n input) → Joins (take held (drop atWaiting s)) input total y
-joined-is s input d x y held n end total h k w e a b c f =
-    let m : atWaiting + held - atWaiting ≡ held = omega arith in
-    let p : List ℕ = take held (drop atWaiting s) in
-    let long : length p ≡ held = length-take-le held (drop atWaiting s) (rw (length-drop atWaiting s) (omega arith)) in
-    let front : length (take n input) ≡ n = reach-long n input e in
-    let a′ : end ≡ 0 + length p = rw m at a in
-    let b′ : x ≡ put d 0 p = rw m at b in
-    let all : y ≡ put d 0 (p ++ take n input) = f ∙ rw (b′, a′) (put-put d 0 p (take n input) (omega arith)) in
-    let size : total ≡ length (p ++ take n input) = c ∙ rw (a′, length-append p (take n input)) (omega arith) in
-    rw (← e) (omega arith, rw (all, put-zero d (p ++ take n input)) (take-at (p ++ take n input) (drop (length (p ++ take n input)) d) total (sym size)))
+  pub held-long : length (take (at + held - at) (drop at s)) ≡ held
+  held-long = rw part-held (length-take-le held (drop at s) (rw (length-drop at s) (omega arith)))
+
+  -- two parts copied one behind the other
+  pub joined-is : (input d x y : List ℕ) (n end total : ℕ) → held ≤ waitMost → length d ≡ joinMost → n ≡ reached input
+      → end ≡ 0 + length (take (at + held - at) (drop at s)) → x ≡ put d 0 (take (at + held - at) (drop at s))
+      → total ≡ end + length (take n input) → y ≡ put x end (take n input) → Joins (take held (drop at s)) input total y
+  joined-is input d x y n end total k w e a b c f =
+      let p : List ℕ = take held (drop at s) in
+      let long : length p ≡ held = rw part-held at held-long in
+      let front : length (take n input) ≡ n = reach-long n input e in
+      let a′ : end ≡ 0 + length p = rw part-held at a in
+      let b′ : x ≡ put d 0 p = rw part-held at b in
+      let all : y ≡ put d 0 (p ++ take n input) = f ∙ rw (b′, a′) (put-put d 0 p (take n input) (omega arith)) in
+      let size : total ≡ length (p ++ take n input) = c ∙ rw (a′, length-append p (take n input)) (omega arith) in
+      rw (← e) (omega arith, rw (all, put-zero d (p ++ take n input)) (take-at (p ++ take n input) (drop (length (p ++ take n input)) d) total (sym size)))
 
 pub part-rest : (l : List ℕ) (at : ℕ) → take (length l - at) (drop at l) ≡ drop at l
 part-rest l at = take-all (length l - at) (drop at l) (rw length-drop (omega arith))
@@ -59,14 +60,14 @@ rest-long l at = rw (part-rest l at, length-drop at l) (omega arith)
 
 -- ---- the whole of a stream
 
-module _ (s l before : List ℕ) (start : ℕ) (p : Progress) (mid out : List ℕ) (h : Hunts (recordOf s) l before (length l) start p mid out) where
+module _ (heads : Heads) (s l before : List ℕ) (start : ℕ) (p : Progress) (mid out : List ℕ) (h : Hunts heads (recordOf s) l before (length l) start p mid out) where
   pub rests-kept : length mid ≡ recordSize
-  rests-kept = going-kept l before start (recordOf s) (p .at) (p .skipped) (p .wrote) mid out (h .going)
+  rests-kept = going-kept heads l before start (recordOf s) (p .at) (p .skipped) (p .wrote) mid out (h .going)
 
-  pub rests-short : length (take (length l - p .at) (drop (p .at) l)) ≤ pendingRoom
-  rests-short = rw (part-rest l (p .at)) (halted-short (h .going .board) (drop (p .at) l) (stopped Record Reply serial answer (h .going .board) l (p .at) (length l) (omega arith) (h .stops)))
+  pub rests-short : Huntable heads → length (take (length l - p .at) (drop (p .at) l)) ≤ pendingRoom
+  rests-short ok = rw (part-rest l (p .at)) (halted-short heads ok (h .going .board) (drop (p .at) l) (stopped Record Reply heads answer (h .going .board) l (p .at) (length l) (omega arith) (h .stops)))
 
-  pub rests : (kept : List ℕ) → Turns mid kept (λ z. withPending z (take (length l - p .at) (drop (p .at) l))) → Rests (recordOf s) l before start p kept out
+  pub rests : (kept : List ℕ) → Turns mid kept (λ z. withPending z (take (length l - p .at) (drop (p .at) l))) → Rests heads (recordOf s) l before start p kept out
   rests kept t = record { mid = mid; hunts = h; turns = subst (λ (x : List ℕ). Turns mid kept (λ z. withPending z x)) (part-rest l (p .at)) t }
 
 -- what the store of the pending bytes asks for
@@ -85,59 +86,61 @@ module _ (s : List ℕ) (sound : Sound s) where
   pub held-few : getD s atPending 0 ≤ pendingRoom
   held-few = omega (arith, held-is, pending-short (r .pending) (sound .fit .pending))
 
-  pending-part : take (getD s atPending 0) (drop atWaiting s) ≡ r .pending
+  pub held-inside : atWaiting + getD s atPending 0 ≤ length s
+  held-inside = omega (arith, held-few, holds-long r s sound)
+
+  pub pending-part : take (getD s atPending 0) (drop atWaiting s) ≡ r .pending
   unfolding recordOf
   pending-part = sym (take-take (getD s atPending 0) pendingRoom (drop atWaiting s) held-few) ∙ ap (take (getD s atPending 0)) (sym (part-is pendingRoom s atWaiting (omega (arith, holds-long r s sound))))
 
-  module _ (input before head : List ℕ) (total : ℕ) (j : Joins (take (getD s atPending 0) (drop atWaiting s)) input total head) where
-    abbrev n : ℕ
-    n = reached input
+-- ---- the joined head of the pending bytes p and the input
 
-    stream : take total head ≡ r .pending ++ take n input
-    stream = j .1 ∙ rw pending-part refl
+module _ (p input head : List ℕ) (held total : ℕ) (held-is : held ≡ length p) (j : Joins p input total head) where
+  abbrev n : ℕ
+  n = reached input
 
-    pub total-is : total ≡ getD s atPending 0 + n
-    total-is = j .0 ∙ rw (pending-part, held-is) refl
+  pub total-is : total ≡ held + n
+  total-is = omega (arith, held-is, j .0)
 
-    pub stream-long : length (take total head) ≡ total
-    stream-long = ap length stream ∙ length-append (r .pending) (take n input) ∙ rw (reach-long n input refl) (omega (arith, total-is, held-is))
+  pub stream-long : length (take total head) ≡ total
+  stream-long = ap length (j .1) ∙ length-append p (take n input) ∙ rw (reach-long n input refl) (sym (j .0))
 
-    module _ (h : Progress) (kept out : List ℕ) (f : Hunts r (take total head) before (getD s atPending 0) 0 h kept out) where
-      found : Hunts r (r .pending ++ take n input) before (length (r .pending)) 0 h kept out
-      found = subst (λ (x : ℕ). Hunts r (r .pending ++ take n input) before x 0 h kept out) held-is (subst (λ (l : List ℕ). Hunts r l before (getD s atPending 0) 0 h kept out) stream f)
+  module _ (heads : Heads) (r : Record) (before : List ℕ) (h : Progress) (kept out : List ℕ) (f : Hunts heads r (take total head) before held 0 h kept out) where
+    found : Hunts heads r (p ++ take n input) before (length p) 0 h kept out
+    found = subst (λ (x : ℕ). Hunts heads r (p ++ take n input) before x 0 h kept out) held-is (subst (λ (l : List ℕ). Hunts heads r l before held 0 h kept out) (j .1) f)
 
-      pub first-kept : length kept ≡ recordSize
-      first-kept = going-kept (take total head) before 0 r (h .at) (h .skipped) (h .wrote) kept out (f .going)
+    pub first-kept : length kept ≡ recordSize
+    first-kept = going-kept heads (take total head) before 0 r (h .at) (h .skipped) (h .wrote) kept out (f .going)
 
-      waiting-part : take (total - h .at) (drop (h .at) head) ≡ drop (h .at) (r .pending ++ take n input)
-      waiting-part = sym (drop-take (h .at) total head) ∙ ap (drop (h .at)) stream
+    waiting-part : take (total - h .at) (drop (h .at) head) ≡ drop (h .at) (p ++ take n input)
+    waiting-part = sym (drop-take (h .at) total head) ∙ ap (drop (h .at)) (j .1)
 
-      module _ (a : h .at < getD s atPending 0) where
-        pub short-first : length (take (total - h .at) (drop (h .at) head)) ≤ pendingRoom
-        short-first = rw waiting-part (head-short r input before n refl h kept out found (rw held-is at a))
+    module _ (ok : Huntable heads) (a : h .at < held) where
+      pub short-first : length (take (total - h .at) (drop (h .at) head)) ≤ pendingRoom
+      short-first = rw waiting-part (head-short heads r p input before n refl h kept out found ok (rw held-is at a))
 
-        pub serves-first : (kept′ : List ℕ) → Turns kept kept′ (λ z. withPending z (take (total - h .at) (drop (h .at) head))) → Serves r input before (record { written = h .wrote; skipped = h .skipped }) kept′ out
-        serves-first kept′ t =
-            serves-head r input before n refl h kept out found (rw held-is at a) kept′ (subst (λ (x : List ℕ). Turns kept kept′ (λ z. withPending z x)) waiting-part t)
+      pub ends-first : (kept′ : List ℕ) → Turns kept kept′ (λ z. withPending z (take (total - h .at) (drop (h .at) head))) → Ends heads r (p ++ input) before (record { written = h .wrote; skipped = h .skipped }) kept′ out
+      ends-first kept′ t =
+          ends-head heads r p input before n refl h kept out found ok (rw held-is at a) kept′ (subst (λ (x : List ℕ). Turns kept kept′ (λ z. withPending z x)) waiting-part t)
 
-      module _ (past : getD s atPending 0 ≤ h .at) (room : roomFor (length (r .pending) + length input) ≤ length before) where
-        abbrev rest : List ℕ
-        rest = take (length input - (h .at - getD s atPending 0)) (drop (h .at - getD s atPending 0) input)
+    module _ (past : held ≤ h .at) (room : roomFor (length p + length input) ≤ length before) where
+      abbrev rest : List ℕ
+      rest = take (length input - (h .at - held)) (drop (h .at - held) input)
 
-        past′ : length (r .pending) ≤ h .at
-        past′ = omega (arith, held-is)
+      past′ : length p ≤ h .at
+      past′ = omega (arith, held-is)
 
-        rest-is : rest ≡ drop (h .at - length (r .pending)) input
-        rest-is = part-rest input (h .at - getD s atPending 0) ∙ rw held-is refl
+      rest-is : rest ≡ drop (h .at - length p) input
+      rest-is = part-rest input (h .at - held) ∙ rw held-is refl
 
-        pub from-inside : h .at - getD s atPending 0 ≤ length input
-        from-inside = rw held-is (rest-starts r input before n refl h kept out found past′ room)
+      pub from-inside : h .at - held ≤ length input
+      from-inside = rw held-is (rest-starts heads r p input before n refl h kept out found past′ room)
 
-        pub rest-fits : h .wrote + roomFor (length rest) ≤ length out
-        rest-fits = rw rest-is (rest-room r input before n refl h kept out found past′ room)
+      pub rest-fits : h .wrote + roomFor (length rest) ≤ length out
+      rest-fits = rw rest-is (rest-room heads r p input before n refl h kept out found past′ room)
 
-        pub serves-second : (x : Progress) (kept₂ out₂ : List ℕ) → Rests (recordOf kept) rest out (h .wrote) x kept₂ out₂
-            → Serves r input before (record { written = x .wrote; skipped = h .skipped + x .skipped }) kept₂ out₂
-        serves-second x kept₂ out₂ y =
-            let y′ : Rests (recordOf kept) (drop (h .at - length (r .pending)) input) out (h .wrote) x kept₂ out₂ = subst (λ (l : List ℕ). Rests (recordOf kept) l out (h .wrote) x kept₂ out₂) rest-is y in
-            serves-rest r input before n refl h kept out found past′ room x (y′ .mid) out₂ (y′ .hunts) kept₂ (y′ .turns)
+      pub ends-second : Huntable heads → (x : Progress) (kept₂ out₂ : List ℕ) → Rests heads (recordOf kept) rest out (h .wrote) x kept₂ out₂
+          → Ends heads r (p ++ input) before (record { written = x .wrote; skipped = h .skipped + x .skipped }) kept₂ out₂
+      ends-second ok x kept₂ out₂ y =
+          let y′ : Rests heads (recordOf kept) (drop (h .at - length p) input) out (h .wrote) x kept₂ out₂ = subst (λ (l : List ℕ). Rests heads (recordOf kept) l out (h .wrote) x kept₂ out₂) rest-is y in
+          ends-rest heads r p input before n refl h kept out found past′ room x (y′ .mid) out₂ (y′ .hunts) ok kept₂ (y′ .turns)

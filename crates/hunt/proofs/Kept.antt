@@ -4,13 +4,12 @@ use mathlib.Core.Path.{_≡_}
 use mathlib.Core.List.{List, _++_}
 use mathlib.Core.Bool.{true}
 use Rattle.wire.specs.Numbers.{Bytes}
-use Rattle.wire.specs.Frames.{Piece, Whole, Broken, cut, waits}
+use Rattle.wire.specs.Frames.{Heads, Piece, Whole, Broken, cut, waits}
 use Rattle.wire.specs.Serial.{serial}
 use Rattle.wire.specs.Replies.{Reply}
 use Rattle.wire.specs.Run.{runs, hunt}
 use Rattle.wire.proofs.NumberLaws.{bytes-append}
-use Rattle.wire.proofs.CutLaws.{cut-waits, cut-bytes}
-use Rattle.wire.proofs.SerialLaws.{Fair, pieces-fair}
+use Rattle.wire.proofs.CutLaws.{Fair, cut-waits, cut-bytes, pieces-fair}
 use Rattle.wire.proofs.RunLaws.{runs-keep}
 use Rattle.record.specs.Record.{Record, withPending}
 use Rattle.record.specs.Form.{InRange}
@@ -19,11 +18,11 @@ use Rattle.command.proofs.Keep.{step-in}
 use Rattle.hunt.specs.Hunt.{huntOf, recordAfter}
 
 answer-in : (r : Record) (p : Piece) → Fair p → InRange r → InRange (answer r p .state)
-answer-in r (Whole f) h i = step-in r f (h .3) i
+answer-in r (Whole f) h i = step-in r f (h .1) i
 answer-in r (Broken head) h i = i
 
-pub runs-in : (r : Record) (l : List ℕ) → Bytes l → InRange r → InRange (runs answer r (cut serial l .pieces) .state)
-runs-in r l b i = runs-keep Record Reply serial answer InRange Fair answer-in r (cut serial l .pieces) (pieces-fair l b) i
+pub runs-in : (heads : Heads) (r : Record) (l : List ℕ) → Bytes l → InRange r → InRange (runs answer r (cut heads l .pieces) .state)
+runs-in heads r l b i = runs-keep Record Reply heads answer InRange Fair answer-in r (cut heads l .pieces) (pieces-fair heads l b) i
 
 pending-in : (r : Record) (l : List ℕ) → waits serial l ≡ true → Bytes l → InRange r → InRange (withPending r l)
 unfolding withPending
@@ -34,4 +33,4 @@ unfolding recordAfter huntOf hunt
 hunt-in r input b i =
     let l = r .pending ++ input in
     let bytes : Bytes l = bytes-append (r .pending) input (i .pending-bytes) b in
-    pending-in (runs answer r (cut serial l .pieces) .state) (cut serial l .waiting) (cut-waits serial l) (cut-bytes serial l bytes) (runs-in r l bytes i)
+    pending-in (runs answer r (cut serial l .pieces) .state) (cut serial l .waiting) (cut-waits serial l) (cut-bytes serial l bytes) (runs-in serial r l bytes i)

@@ -6,13 +6,12 @@ use native.Mathlib.Omega.{arith}
 use lib.ListN.{length, length-append}
 use Rattle.wire.specs.Sizes.{frameMost, streamMost}
 use Rattle.wire.specs.Numbers.{Bytes}
-use Rattle.wire.specs.Frames.{Piece, Whole, Broken, sizes, All, cut}
+use Rattle.wire.specs.Frames.{Heads, Piece, Whole, Broken, sizes, All, cut}
 use Rattle.wire.specs.Serial.{serial}
 use Rattle.wire.specs.Replies.{written}
 use Rattle.wire.specs.Run.{runs, hunt}
 use Rattle.wire.proofs.NumberLaws.{bytes-append}
-use Rattle.wire.proofs.CutLaws.{frames, conserved}
-use Rattle.wire.proofs.SerialLaws.{Fair, pieces-fair}
+use Rattle.wire.proofs.CutLaws.{Fair, frames, conserved, pieces-fair}
 use Rattle.wire.proofs.ReplyLaws.{reply-bounds, length-none, length-cons}
 use Rattle.record.specs.Record.{Record}
 use Rattle.record.specs.Form.{InRange}
@@ -33,18 +32,19 @@ unfolding All frames runs
 nineteen r [] f i = omega (arith, length-none)
 nineteen r (Whole f ∷ ps) h i =
     let b = reply-bounds (stepOf r f .reply) (reply-short r f i) in
-    let more = nineteen (stepOf r f .after) ps (h .1) (step-in r f (h .0 .3) i) in
+    let more = nineteen (stepOf r f .after) ps (h .1) (step-in r f (h .0 .1) i) in
     rw (length-cons (stepOf r f .reply) (runs answer (stepOf r f .after) ps .said)) (omega (arith, b .1, more))
 nineteen r (Broken head ∷ ps) h i = nineteen r ps (h .1) i
 
+pub hunt-fits : (heads : Heads) (r : Record) (l : List ℕ) → Bytes l → InRange r → length (written (hunt heads answer r l .said)) ≤ roomFor (length l)
+unfolding hunt
+hunt-fits heads r l b i =
+    let fair = pieces-fair heads l b in
+    omega (arith, nineteen r (cut heads l .pieces) fair i, four (cut heads l .pieces) fair, conserved heads l)
+
 pub room-enough : (r : Record) (input : List ℕ) → Bytes input → InRange r → length (written (huntOf r input .said)) ≤ roomFor (length (r .pending) + length input)
-unfolding huntOf hunt
-room-enough r input b i =
-    let l : List ℕ = r .pending ++ input in
-    let bytes : Bytes l = bytes-append (r .pending) input (i .pending-bytes) b in
-    let fair = pieces-fair l bytes in
-    let n : length l ≡ length (r .pending) + length input = length-append (r .pending) input in
-    omega (arith, nineteen r (cut serial l .pieces) fair i, four (cut serial l .pieces) fair, conserved serial l, n)
+unfolding huntOf
+room-enough r input b i = rw (← length-append (r .pending) input) (hunt-fits serial r (r .pending ++ input) (bytes-append (r .pending) input (i .pending-bytes) b) i)
 
 -- "So 4,096 bytes with 18 pending need 19,532 bytes of room."
 pub most-room : roomFor streamMost ≡ 19532

@@ -2,8 +2,9 @@
 ghost use mathlib.Core.Path.{_≡_};
 ghost use Prim.Native.Nat.{_+_, _-_, _≤_};
 ghost use lib.ListN.{length, take, drop};
-ghost use Rattle.wire.specs.Sizes.{frameMost, inputMost, streamMost, joinMost};
-ghost use Rattle.record.specs.Layout.{pendingRoom, atWaiting, atPairs, recordOf};
+ghost use Rattle.wire.specs.Sizes.{frameMost, waitMost, inputMost, streamMost, joinMost};
+ghost use Rattle.wire.specs.Serial.{headsOf};
+ghost use Rattle.record.specs.Layout.{pendingRoom, recordOf};
 ghost use Rattle.record.specs.Place.{Sound};
 ghost use Rattle.hunt.specs.Hunt.{roomFor};
 ghost use Rattle.hunt.specs.Progress.{Hunts, Rests, Joins, Serves};
@@ -40,18 +41,25 @@ pub fn room_for(held: usize, len: usize) -> usize
     FRAME_MOST * ((held + len) / 4)
 }
 
-// Hunts through s up to the first piece that begins at `until` or later; writes the replies from a place on.
-fn hunt_in(rec: &mut [u8], s: &[u8], until: usize, out: &mut [u8], start: usize) -> Progress
+// Hunts through s, for the heads of a line, up to the first piece that begins at `until` or later; writes the replies from a place on.
+fn hunt_in(
+    line: Line,
+    rec: &mut [u8],
+    s: &[u8],
+    until: usize,
+    out: &mut [u8],
+    start: usize,
+) -> Progress
     requires { ⌜ Sound (now rec) ⌝ }
     requires { ⌜ (until ≤ length (now s)) × (length (now s) ≤ streamMost) ⌝ }
     requires { ⌜ start + roomFor (length (now s)) ≤ length (now out) ⌝ }
-    ensures { λ p. ⌜ Hunts (recordOf (now (rec .entry))) (now (s .entry)) (now (out .entry)) until start p (now (rec .exit)) (now (out .exit)) ⌝ }
+    ensures { λ p. ⌜ Hunts (headsOf line) (recordOf (now (rec .entry))) (now (s .entry)) (now (out .entry)) until start p (now (rec .exit)) (now (out .exit)) ⌝ }
 {
     let mut at = 0;
     let mut wrote = start;
     let mut skipped = 0;
     'hunt: while at < until {
-        let found = find(Line::Board, s, at, until);
+        let found = find(line, s, at, until);
         let to = found.at;
         let seen = found.seen;
         skipped += to - at;
@@ -85,25 +93,25 @@ fn reach(len: usize) -> usize
     FRAME_MOST
 }
 
-// Joins the pending bytes and as much of the input as a candidate that starts in them can reach.
-fn join(rec: &[u8], held: usize, input: &[u8], head: &mut [u8]) -> usize
-    requires { ⌜ (atPairs ≤ length (now rec)) × (held ≤ pendingRoom) × (length (now head) ≡ joinMost) ⌝ }
-    ensures { λ n. ⌜ Joins (take held (drop atWaiting (now (rec .entry)))) (now (input .entry)) n (now (head .exit)) ⌝ }
+// Joins the pending bytes, which stand at a place, and as much of the input as a candidate that starts in them can reach.
+fn join(rec: &[u8], at: usize, held: usize, input: &[u8], head: &mut [u8]) -> usize
+    requires { ⌜ (at + held ≤ length (now rec)) × (held ≤ waitMost) × (length (now head) ≡ joinMost) ⌝ }
+    ensures { λ n. ⌜ Joins (take held (drop at (now (rec .entry)))) (now (input .entry)) n (now (head .exit)) ⌝ }
 {
     let n = reach(input.len());
-    let end = put_in(head, 0, &rec[AT_WAITING..AT_WAITING + held]);
+    let end = put_in(head, 0, &rec[at..at + held]);
     put_in(head, end, &input[..n])
 }
 
 // Hunts through all of a stream; what waits at its end becomes the pending bytes.
-fn hunt_rest(rec: &mut [u8], s: &[u8], out: &mut [u8], start: usize) -> Progress
+fn hunt_rest(line: Line, rec: &mut [u8], s: &[u8], out: &mut [u8], start: usize) -> Progress
     requires { ⌜ Sound (now rec) ⌝ }
     requires { ⌜ length (now s) ≤ streamMost ⌝ }
     requires { ⌜ start + roomFor (length (now s)) ≤ length (now out) ⌝ }
-    ensures { λ p. ⌜ Rests (recordOf (now (rec .entry))) (now (s .entry)) (now (out .entry)) start p (now (rec .exit)) (now (out .exit)) ⌝ }
+    ensures { λ p. ⌜ Rests (headsOf line) (recordOf (now (rec .entry))) (now (s .entry)) (now (out .entry)) start p (now (rec .exit)) (now (out .exit)) ⌝ }
 {
     let len = s.len();
-    let p = hunt_in(rec, s, len, out, start);
+    let p = hunt_in(line, rec, s, len, out, start);
     let at = p.at;
     set_pending(rec, AT_PENDING, PENDING_ROOM, &s[at..len]);
     p
@@ -118,8 +126,8 @@ pub fn serve(rec: &mut [u8], input: &[u8], out: &mut [u8]) -> Served
 {
     let held = rec[AT_PENDING] as usize;
     let mut head = [0u8; JOIN_MOST];
-    let total = join(rec, held, input, &mut head);
-    let first = hunt_in(rec, &head[..total], held, out, 0);
+    let total = join(rec, AT_WAITING, held, input, &mut head);
+    let first = hunt_in(Line::Board, rec, &head[..total], held, out, 0);
     let at = first.at;
     if at < held {
         set_pending(rec, AT_PENDING, PENDING_ROOM, &head[at..total]);
@@ -129,7 +137,7 @@ pub fn serve(rec: &mut [u8], input: &[u8], out: &mut [u8]) -> Served
         };
     }
     let from = at - held;
-    let rest = hunt_rest(rec, &input[from..], out, first.wrote);
+    let rest = hunt_rest(Line::Board, rec, &input[from..], out, first.wrote);
     Served {
         written: rest.wrote,
         skipped: first.skipped + rest.skipped,

@@ -11,6 +11,7 @@ use lib.Dec.{leb, eqb}
 use borrow.Author.Tests.{leb-false, leb-true, le-leb, eqb-true}
 use Rattle.wire.specs.Numbers.{Bytes}
 use Rattle.wire.specs.Frames.{Size, NoHead, NeedMore, Of, Heads, Look, Skip, Wait, Take, Tear, settle, weigh, look, Piece, Whole, Broken, sizes, All, Cut, stop, skipOne, carryOut, tearOne, onward, cutFrom, cut, isWait, waits}
+use Rattle.wire.proofs.NumberLaws.{bytes-take, bytes-drop}
 
 -- a size once said does not change when more bytes follow
 pub record Steady (h : Heads) : Type 0 where
@@ -31,6 +32,11 @@ frames (Broken head ∷ pieces) = frames pieces
 -- a cut followed by another
 abbrev pub andThen : Cut → Cut → Cut
 andThen a b = record { pieces = a .pieces ++ b .pieces; skipped = a .skipped + b .skipped; waiting = b .waiting }
+
+-- what every frame is that a stream of bytes holds
+abbrev pub Fair : Piece → Type 0
+Fair (Whole f) = (4 ≤ length f) × Bytes f
+Fair (Broken head) = Unit {0}
 
 -- ---- what a decision says of the bytes that are there
 
@@ -216,6 +222,16 @@ module _ (h : Heads) where
 
   pub cut-bytes : (l : List ℕ) → Bytes l → Bytes (cut h l .waiting)
   cut-bytes l b = bytes-from l 0 b
+
+  -- ---- a frame that is carried out has at least four bytes, and is of bytes where the stream is
+
+  pub fair-whole : (l : List ℕ) → Bytes l → (k n : ℕ) → look h (drop k l) ≡ Take n → Fair (Whole (take (4 + n) (drop k l)))
+  fair-whole l b k n e =
+      let m : length (take (4 + n) (drop k l)) ≡ 4 + n = length-take-le (4 + n) (drop k l) (take-room (drop k l) n e .0) in
+      (omega arith, bytes-take (4 + n) (drop k l) (bytes-drop k l b))
+
+  pub pieces-fair : (l : List ℕ) → Bytes l → All Fair (cut h l .pieces)
+  pieces-fair l b = all-pieces Fair l (fair-whole l b) (λ k e. tt)
 
   -- ---- what waits is shorter than every frame may be
 

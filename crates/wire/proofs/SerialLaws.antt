@@ -11,10 +11,8 @@ use lib.Dec.{ltb, leb, eqb}
 use borrow.Author.Tests.{ltb-true, ltb-false, lt-ltb, le-ltb, leb-true, leb-false, lt-leb, le-leb, eq-eqb, ne-eqb}
 use Rattle.wire.specs.declared.Line.{Line}
 use Rattle.wire.specs.declared.Line.the-variants.{Board}
-use Rattle.wire.specs.Frames.{NeedMore, Of, Heads, Skip, Wait, Take, Tear, look, Piece, Whole, Broken, All, cut, isWait, waits, Passed}
-use Rattle.wire.specs.Numbers.{Bytes}
-use Rattle.wire.specs.Serial.{Head, Bad, Fixed, front, fronted, isHead, serialHead, closed, serial, lineHead, headsOf, Noise, sixLines, headOf}
-use Rattle.wire.proofs.NumberLaws.{bytes-take, bytes-drop}
+use Rattle.wire.specs.Frames.{NeedMore, Of, Heads, Skip, Wait, Take, Tear, look, cut, isWait, waits, Passed}
+use Rattle.wire.specs.Serial.{Head, Bad, Fixed, front, fronted, isHead, closed, serial, lineHead, headsOf, Noise, sixLines, headOf}
 use Rattle.wire.proofs.CutLaws as cuts
 use Rattle.wire.proofs.CutLaws.{Steady, Under}
 use Rattle.wire.proofs.Stretches.{stretch-as}
@@ -22,7 +20,17 @@ use Rattle.wire.proofs.Stretches.{stretch-as}
 longer : (k : ℕ) (l more : List ℕ) → ltb k (length l) ≡ true → ltb k (length (l ++ more)) ≡ true
 longer k l more q = let p : k < length l = ltb-true _ _ q in lt-ltb k (length (l ++ more)) (simp length-append (omega arith))
 
+-- a front that says a size has a head that says it
+of-fixed : (a s : Bool) (v : Head) (n : ℕ) → front a s v ≡ Of n → v ≡ Fixed n
+of-fixed false s v n e = let z : _≡_ {A = ℕ} 0 1 = cc in absurd (omega arith)
+of-fixed true false v n e = let z : _≡_ {A = ℕ} 0 1 = cc in absurd (omega arith)
+of-fixed true true Bad n e = let z : _≡_ {A = ℕ} 0 1 = cc in absurd (omega arith)
+of-fixed true true (Fixed m) n e = cc
+
 module _ (head : ℕ → Head) (sound : List ℕ → Bool) where
+  pub front-says : (l : List ℕ) (n : ℕ) → fronted head sound .size l ≡ Of n → head (getD l 1 0) ≡ Fixed n
+  front-says l n e = of-fixed (eqb (getD l 0 0) 0xAA) (ltb 1 (length l)) (head (getD l 1 0)) n e
+
   stays-by : (l more : List ℕ) (a b : Bool) (v : Head) → 0 < length l → eqb (getD l 0 0) 0xAA ≡ a → ltb 1 (length l) ≡ b → head (getD l 1 0) ≡ v
       → (front a b v ≡ NeedMore → ⊥) → fronted head sound .size (l ++ more) ≡ front a b v
   stays-by l more false b v p ha hb hv w = rw (List·getD-append l more 0 0 p, ha) refl
@@ -36,12 +44,6 @@ module _ (head : ℕ → Head) (sound : List ℕ → Bool) where
   fronted-steady = record { stays = λ l more p w. stays-by l more (eqb (getD l 0 0) 0xAA) (ltb 1 (length l)) (head (getD l 1 0)) p refl refl refl w }
 
   module _ (bound : ℕ) (short : (b n : ℕ) → head b ≡ Fixed n → 4 + n ≤ bound) (four : 4 ≤ bound) where
-    most-by : (b : ℕ) (a s : Bool) (v : Head) (n : ℕ) → head b ≡ v → front a s v ≡ Of n → 4 + n ≤ bound
-    most-by b false s v n q e = let z : _≡_ {A = ℕ} 0 1 = cc in absurd (omega arith)
-    most-by b true false v n q e = let z : _≡_ {A = ℕ} 0 1 = cc in absurd (omega arith)
-    most-by b true true Bad n q e = let z : _≡_ {A = ℕ} 0 1 = cc in absurd (omega arith)
-    most-by b true true (Fixed m) n q e = let w : m ≡ n = cc in omega (arith, short b m q)
-
     early-by : (l : List ℕ) (a s : Bool) (v : Head) → ltb 1 (length l) ≡ s → front a s v ≡ NeedMore → length l < bound
     early-by l false s v q e = let z : _≡_ {A = ℕ} 0 1 = cc in absurd (omega arith)
     early-by l true false v q e = omega (arith, ltb-false 1 (length l) q)
@@ -50,7 +52,7 @@ module _ (head : ℕ → Head) (sound : List ℕ → Bool) where
 
     pub fronted-under : Under (fronted head sound) bound
     fronted-under = record {
-      most = λ l n e. most-by (getD l 1 0) (eqb (getD l 0 0) 0xAA) (ltb 1 (length l)) (head (getD l 1 0)) n refl e;
+      most = λ l n e. short (getD l 1 0) n (front-says l n e);
       early = λ l e. early-by l (eqb (getD l 0 0) 0xAA) (ltb 1 (length l)) (head (getD l 1 0)) refl e;
       some = omega arith;
     }
@@ -91,60 +93,63 @@ module _ (head : ℕ → Head) (sound : List ℕ → Bool) where
   noise-passed l from at p =
       stretch-as l _ (λ i. look (fronted head sound) (drop i l) ≡ Skip) (λ i e. front-other (drop i l) (λ q. e (sym (getD-drop i l 0 0 ∙ rw add-zero refl) ∙ q))) from at p
 
+-- ---- what is asked of the heads that a board hunts for
+
+-- a stream may be cut anywhere, frames have at most 19 bytes, and their head bytes are 9n or An
+pub record Huntable (h : Heads) : Type 0 where
+  pub steady : Steady h
+  pub under : Under h 19
+  pub headed : (l : List ℕ) (n : ℕ) → h .size l ≡ Of n → isHead (getD l 1 0) ≡ true
+
+module _ (h : Heads) (ok : Huntable h) where
+  -- at most 18 bytes wait
+  pub waits-few : (l : List ℕ) → waits h l ≡ true → length l ≤ 18
+  waits-few l t = let q : length l < 19 = cuts.waits-short h 19 (ok .under) l t in omega arith
+
+  pub waiting-short : (l : List ℕ) → length (cut h l .waiting) ≤ 18
+  waiting-short l = waits-few (cut h l .waiting) (cuts.cut-waits h l)
+
+  pub taken-headed : (l : List ℕ) (n : ℕ) → look h l ≡ Take n → isHead (headOf (take (4 + n) l)) ≡ true
+  taken-headed l n e = rw (getD-take (4 + n) l 1 0 (omega arith)) (ok .headed l n (cuts.take-room h l n e .1))
+
 -- ---- the lines
 
 pub heads-of : (k : Line) → headsOf k ≡ fronted (lineHead k) closed
 unfolding serial
 heads-of Board = refl
 
--- ---- 9n and An
-
-short-by : (t : Bool) (b n : ℕ) → cond t (Fixed (b % 16)) Bad ≡ Fixed n → 4 + n ≤ 19
-short-by true b n e = let q : b % 16 ≡ n = cc in omega arith
-short-by false b n e = let z : _≡_ {A = ℕ} 0 1 = cc in absurd (omega arith)
+low-half : (t : Bool) (b n : ℕ) → cond t (Fixed (b % 16)) Bad ≡ Fixed n → (4 + n ≤ 19) × (t ≡ true)
+low-half true b n e = let q : b % 16 ≡ n = cc in (omega arith, refl)
+low-half false b n e = let z : _≡_ {A = ℕ} 0 1 = cc in absurd (omega arith)
 
 -- no line has a frame of more than 19 bytes
 pub line-short : (k : Line) (b n : ℕ) → lineHead k b ≡ Fixed n → 4 + n ≤ 19
-line-short Board b n e = short-by (isHead b) b n e
+line-short Board b n e = low-half (isHead b) b n e .0
+
+-- nor a head other than 9n and An
+pub line-headed : (k : Line) (b n : ℕ) → lineHead k b ≡ Fixed n → isHead b ≡ true
+line-headed Board b n e = low-half (isHead b) b n e .1
+
+pub huntable : (k : Line) → Huntable (headsOf k)
+huntable k = rw (heads-of k) (record {
+  steady = fronted-steady (lineHead k) closed;
+  under = fronted-under (lineHead k) closed 19 (line-short k) (omega arith);
+  headed = λ l n e. line-headed k (getD l 1 0) n (front-says (lineHead k) closed l n e);
+})
+
+-- ---- 9n and An
+
+pub serial-huntable : Huntable serial
+serial-huntable = huntable Board
 
 pub serial-steady : Steady serial
-unfolding serial
-serial-steady = fronted-steady serialHead closed
+serial-steady = serial-huntable .steady
 
 pub serial-under : Under serial 19
-unfolding serial
-serial-under = fronted-under serialHead closed 19 (line-short Board) (omega arith)
+serial-under = serial-huntable .under
 
--- at most 18 bytes wait
 pub pending-short : (l : List ℕ) → waits serial l ≡ true → length l ≤ 18
-pending-short l t = let h : length l < 19 = cuts.waits-short serial 19 serial-under l t in omega arith
-
-pub waiting-short : (l : List ℕ) → length (cut serial l .waiting) ≤ 18
-waiting-short l = pending-short (cut serial l .waiting) (cuts.cut-waits serial l)
-
--- ---- a frame that is carried out: 4 to 19 bytes, a good head, bytes where the stream has bytes
-
-abbrev pub Fair : Piece → Type 0
-Fair (Whole f) = (4 ≤ length f) × (length f ≤ 19) × (isHead (headOf f) ≡ true) × Bytes f
-Fair (Broken head) = Unit {0}
-
-headed-by : (a b t : Bool) (n m : ℕ) → front a b (cond t (Fixed n) Bad) ≡ Of m → t ≡ true
-headed-by false b t n m e = let z : _≡_ {A = ℕ} 0 1 = cc in absurd (omega arith)
-headed-by true false t n m e = let z : _≡_ {A = ℕ} 0 1 = cc in absurd (omega arith)
-headed-by true true true n m e = refl
-headed-by true true false n m e = let z : _≡_ {A = ℕ} 0 1 = cc in absurd (omega arith)
-
-pub fair-whole : (l : List ℕ) → Bytes l → (k n : ℕ) → look serial (drop k l) ≡ Take n → Fair (Whole (take (4 + n) (drop k l)))
-unfolding serial
-fair-whole l b k n e =
-    let r = cuts.take-room serial (drop k l) n e in
-    let m : length (take (4 + n) (drop k l)) ≡ 4 + n = length-take-le (4 + n) (drop k l) (r .0) in
-    let q : 4 + n ≤ 19 = serial-under .most (drop k l) n (r .1) in
-    let t = headed-by (eqb (getD (drop k l) 0 0) 0xAA) (ltb 1 (length (drop k l))) (isHead (getD (drop k l) 1 0)) (getD (drop k l) 1 0 % 16) n (r .1) in
-    (omega arith, omega arith, rw (getD-take (4 + n) (drop k l) 1 0 (omega arith)) t, bytes-take (4 + n) (drop k l) (bytes-drop k l b))
-
-pub pieces-fair : (l : List ℕ) → Bytes l → All Fair (cut serial l .pieces)
-pieces-fair l b = cuts.all-pieces serial Fair l (fair-whole l b) (λ k e. tt)
+pending-short l t = waits-few serial serial-huntable l t
 
 -- ---- the six lines
 

@@ -11,62 +11,66 @@ use mathlib.Core.Path.{_≡_, sym, _∙_}
 use mathlib.Core.Logic.{inl}
 use mathlib.Core.List.{List}
 use lib.ListN.{length, drop}
-use Rattle.wire.specs.Frames.{look, Take}
-use Rattle.wire.specs.Serial.{serial}
+use Rattle.wire.specs.Frames.{Heads, look, Take}
+use Rattle.wire.specs.Serial.{headsOf}
+use Rattle.wire.proofs.SerialLaws.{huntable}
 use Rattle.finder.specs.declared.Seen.the-variants.{Frame, Torn}
 use Rattle.hunt.proofs.hunt_in.Statement.{statement}
 use Rattle.hunt.proofs.hunt_in.Tie as tie
 
 abbrev Inv-hunt : tie.InvT-hunt
-Inv-hunt rec₀ s until out₀ start at₀ wrote₀ skipped₀ rec out at wrote skipped = Going (recordOf rec₀) s out₀ start at skipped wrote rec out
+Inv-hunt line rec₀ s until out₀ start at₀ wrote₀ skipped₀ rec out at wrote skipped = Going (headsOf line) (recordOf rec₀) s out₀ start at skipped wrote rec out
 
 abbrev μ-hunt : tie.MeasureT-hunt
-μ-hunt rec₀ s until out₀ start at₀ wrote₀ skipped₀ rec out at wrote skipped = length s - at
+μ-hunt line rec₀ s until out₀ start at₀ wrote₀ skipped₀ rec out at wrote skipped = length s - at
 
 hunt-holds : tie.Need-hunt-holds Inv-hunt μ-hunt
-hunt-holds c = let z = c .before .before .before in going-start (z .args .s .now) (z .args .out .now) (z .args .start) (z .args .rec .now) (z .pre .0)
+hunt-holds c = let z = c .before .before .before in going-start (headsOf (z .args .line)) (z .args .s .now) (z .args .out .now) (z .args .start) (z .args .rec .now) (z .pre .0)
 
 -- where the finder stopped: the board so far, and what stands there
 module _ (f : tie.After-find Inv-hunt μ-hunt) where
   abbrev here : ℕ
   here = f .find .result .at
 
+  abbrev heads : Heads
+  heads = headsOf (f .before .before .before .before .before .before .args .line)
+
   abbrev stream : List ℕ
   stream = f .before .before .before .before .before .before .args .s .now
 
   going-here : let z = f .before .before .before .before .before .before .args in let l = f .before .before .hunt in
-      Going (recordOf (z .rec .now)) stream (z .out .now) (z .start) here (l .skipped + (here - l .at)) (l .wrote) (l .rec) (l .out)
+      Going heads (recordOf (z .rec .now)) stream (z .out .now) (z .start) here (l .skipped + (here - l .at)) (l .wrote) (l .rec) (l .out)
   going-here =
       let z = f .before .before .before .before .before .before .args in
       let l = f .before .before .hunt in
-      going-pass stream (z .out .now) (z .start) (recordOf (z .rec .now)) (l .at) (l .skipped) (l .wrote) (l .rec) (l .out) (l .inv) here (f .find .ensures .passed)
+      going-pass heads stream (z .out .now) (z .start) (recordOf (z .rec .now)) (l .at) (l .skipped) (l .wrote) (l .rec) (l .out) (l .inv) here (f .find .ensures .passed)
 
-  frame-here : (n : ℕ) → f .find .result .seen ≡ Frame n → look serial (drop here stream) ≡ Take n
-  frame-here n told = shown-frame serial stream (f .before .before .hunt .at) (f .before .before .before .before .before .before .args .until) (f .find .result) (f .find .ensures) n told
+  frame-here : (n : ℕ) → f .find .result .seen ≡ Frame n → look heads (drop here stream) ≡ Take n
+  frame-here n told = shown-frame heads stream (f .before .before .hunt .at) (f .before .before .before .before .before .before .args .until) (f .find .result) (f .find .ensures) n told
 
   room-here : (n : ℕ) → f .find .result .seen ≡ Frame n → here + 4 + n ≤ length stream
-  room-here n told = found-room serial stream here n (frame-here n told)
+  room-here n told = found-room heads stream here n (frame-here n told)
 
   torn-here : f .find .result .seen ≡ Torn → let z = f .before .before .before .before .before .before .args in let l = f .before .before .hunt in
-      Going (recordOf (z .rec .now)) stream (z .out .now) (z .start) (here + 1) (l .skipped + (here - l .at) + 1) (l .wrote) (l .rec) (l .out)
+      Going heads (recordOf (z .rec .now)) stream (z .out .now) (z .start) (here + 1) (l .skipped + (here - l .at) + 1) (l .wrote) (l .rec) (l .out)
   torn-here told =
       let z = f .before .before .before .before .before .before .args in
       let l = f .before .before .hunt in
-      going-tear stream (z .out .now) (z .start) (recordOf (z .rec .now)) here (l .skipped + (here - l .at)) (l .wrote) (l .rec) (l .out) going-here
-      (shown-torn serial stream (l .at) (z .until) (f .find .result) (f .find .ensures) told)
+      going-tear heads stream (z .out .now) (z .start) (recordOf (z .rec .now)) here (l .skipped + (here - l .at)) (l .wrote) (l .rec) (l .out) going-here
+      (shown-torn heads stream (l .at) (z .until) (f .find .result) (f .find .ensures) told)
 
 -- at the head of the loop
 module _ (l : tie.At-hunt Inv-hunt μ-hunt) where
   hunt-kept : length (l .hunt .rec) ≡ length (l .before .before .before .before .args .rec .now)
   hunt-kept =
       let z = l .before .before .before .before .args in
-      going-kept (z .s .now) (z .out .now) (z .start) (recordOf (z .rec .now)) (l .hunt .at) (l .hunt .skipped) (l .hunt .wrote) (l .hunt .rec) (l .hunt .out) (l .hunt .inv)
+      going-kept (headsOf (z .line)) (z .s .now) (z .out .now) (z .start) (recordOf (z .rec .now)) (l .hunt .at) (l .hunt .skipped) (l .hunt .wrote) (l .hunt .rec) (l .hunt .out) (l .hunt .inv)
       ∙ sym (holds-long _ _ (l .before .before .before .before .pre .0))
 
   hunt-long : length (l .hunt .out) ≡ length (l .before .before .before .before .args .out .now)
   hunt-long =
       let z = l .before .before .before .before .args in
-      going-long (z .s .now) (z .out .now) (z .start) (recordOf (z .rec .now)) (l .hunt .at) (l .hunt .skipped) (l .hunt .wrote) (l .hunt .rec) (l .hunt .out) (l .hunt .inv) (l .before .before .before .before .pre .1 .1)
+      going-long (headsOf (z .line)) (z .s .now) (z .out .now) (z .start) (recordOf (z .rec .now)) (l .hunt .at) (l .hunt .skipped) (l .hunt .wrote) (l .hunt .rec) (l .hunt .out) (l .hunt .inv) (l .before .before .before .before .pre .1 .1)
 
 find-requires : tie.Need-find-requires Inv-hunt μ-hunt
 find-requires c κs = (omega arith, omega arith, omega arith)
@@ -102,10 +106,10 @@ carry-requires c κs =
     let l = f .before .before .hunt in
     let e = frame-here f _ (c .before .before .before .before .seen .given .1) in
     let on = going-here f in (
-      going-sound (stream f) (z .args .out .now) (z .args .start) (recordOf (z .args .rec .now)) _ _ (l .wrote) (l .rec) (l .out) on,
+      going-sound (heads f) (stream f) (z .args .out .now) (z .args .start) (recordOf (z .args .rec .now)) _ _ (l .wrote) (l .rec) (l .out) on,
       (
-        going-frame (stream f) (z .args .out .now) (z .args .start) (recordOf (z .args .rec .now)) _ _ (l .wrote) (l .rec) (l .out) on (z .pre .1 .1) _ e (λ i. omega (arith, f .before .before .before .before .shared-slice-known .given i)),
-        going-room (stream f) (z .args .out .now) (z .args .start) (recordOf (z .args .rec .now)) _ _ (l .wrote) (l .rec) (l .out) on (z .pre .1 .1) _ e,
+        going-frame (heads f) (stream f) (z .args .out .now) (z .args .start) (recordOf (z .args .rec .now)) _ _ (l .wrote) (l .rec) (l .out) on (z .pre .1 .1) _ e (huntable (z .args .line)) (λ i. omega (arith, f .before .before .before .before .shared-slice-known .given i)),
+        going-room (heads f) (stream f) (z .args .out .now) (z .args .start) (recordOf (z .args .rec .now)) _ _ (l .wrote) (l .rec) (l .out) on (z .pre .1 .1) _ e,
       ),
     )
 
@@ -123,7 +127,7 @@ hunt-again c =
     let f = c .before .before .before .before .before .before .before .before .before .before .before in
     let z = f .before .before .before .before .before .before in
     let l = f .before .before .hunt in
-    going-carried (stream f) (z .args .out .now) (z .args .start) (recordOf (z .args .rec .now)) _ _ (l .wrote) (l .rec) (l .out) (going-here f) (z .pre .1 .1) _ (frame-here f _ (c .before .before .before .before .before .before .before .before .before .seen .given .1)) _ _ _ (c .before .before .before .before .carry .ensures)
+    going-carried (heads f) (stream f) (z .args .out .now) (z .args .start) (recordOf (z .args .rec .now)) _ _ (l .wrote) (l .rec) (l .out) (going-here f) (z .pre .1 .1) _ (frame-here f _ (c .before .before .before .before .before .before .before .before .before .seen .given .1)) _ _ _ (c .before .before .before .before .carry .ensures)
 
 enum-told : tie.Need-enum-told Inv-hunt μ-hunt
 enum-told c = search needs
@@ -161,7 +165,7 @@ same-length-4 c = hunt-long (c .before .before .before .before)
 returns-2 : tie.Need-returns-2 Inv-hunt μ-hunt
 returns-2 c =
     let f = c .before .before in
-    record { going = going-here f; stops = shown-nothing serial (stream f) (f .before .before .hunt .at) (f .before .before .before .before .before .before .args .until) (f .find .result) (f .find .ensures) (c .enum-told2 .given .1) }
+    record { going = going-here f; stops = shown-nothing (heads f) (stream f) (f .before .before .hunt .at) (f .before .before .before .before .before .before .args .until) (f .find .result) (f .find .ensures) (c .enum-told2 .given .1) }
 
 pub hunt-in-spec : {M : Type 1} → statement M
 hunt-in-spec =

@@ -1,6 +1,8 @@
 use mathlib.Core.Path.{refl}
 use Rattle.record.proofs.PlaceLaws.{here-pending}
 use Rattle.hunt.proofs.JoinLaws.{roomed, rests-kept, rests-short, rests}
+use Rattle.wire.specs.Serial.{headsOf}
+use Rattle.wire.proofs.SerialLaws.{huntable}
 use Rattle.record.specs.Layout.{pendingRoom, atPending}
 use borrow.Author.Needs.{needs}
 use Rattle.hunt.proofs.hunt_rest.Statement.{statement}
@@ -19,7 +21,10 @@ part-set-pending-end : tie.Need-part-set-pending-end
 part-set-pending-end c = search needs
 
 set-pending-requires : tie.Need-set-pending-requires
-set-pending-requires c κs = roomed _ _ (rests-kept (c .before .before .before .before .before .before .before .before .before .before .before .before .args .rec .now) (c .before .before .before .before .before .before .before .before .before .before .before .before .args .s .now) (c .before .before .before .before .before .before .before .before .before .before .before .before .args .out .now) (c .before .before .before .before .before .before .before .before .before .before .before .before .args .start) (c .before .before .before .before .before .before .hunt-in .result) (c .before .before .before .before .before .before .hunt-in .last .0) (c .before .before .before .before .before .before .hunt-in .last .1 .1 .1 .0) (c .before .before .before .before .before .before .hunt-in .ensures), rests-short (c .before .before .before .before .before .before .before .before .before .before .before .before .args .rec .now) (c .before .before .before .before .before .before .before .before .before .before .before .before .args .s .now) (c .before .before .before .before .before .before .before .before .before .before .before .before .args .out .now) (c .before .before .before .before .before .before .before .before .before .before .before .before .args .start) (c .before .before .before .before .before .before .hunt-in .result) (c .before .before .before .before .before .before .hunt-in .last .0) (c .before .before .before .before .before .before .hunt-in .last .1 .1 .1 .0) (c .before .before .before .before .before .before .hunt-in .ensures))
+set-pending-requires c κs =
+    let f = c .before .before .before .before .before .before in
+    let z = f .before .before .before .before .before .before .args in
+    roomed _ _ (rests-kept (headsOf (z .line)) (z .rec .now) (z .s .now) (z .out .now) (z .start) (f .hunt-in .result) (f .hunt-in .last .1 .0) (f .hunt-in .last .1 .1 .1 .1 .0) (f .hunt-in .ensures), rests-short (headsOf (z .line)) (z .rec .now) (z .s .now) (z .out .now) (z .start) (f .hunt-in .result) (f .hunt-in .last .1 .0) (f .hunt-in .last .1 .1 .1 .1 .0) (f .hunt-in .ensures) (huntable (z .line)))
 
 same-length : tie.Need-same-length
 same-length c = search needs
@@ -28,7 +33,10 @@ same-length-2 : tie.Need-same-length-2
 same-length-2 c = search needs
 
 returns : tie.Need-returns
-returns c = rests (c .before .before .before .before .before .before .before .before .before .before .before .before .before .before .before .args .rec .now) (c .before .before .before .before .before .before .before .before .before .before .before .before .before .before .before .args .s .now) (c .before .before .before .before .before .before .before .before .before .before .before .before .before .before .before .args .out .now) (c .before .before .before .before .before .before .before .before .before .before .before .before .before .before .before .args .start) (c .before .before .before .before .before .before .before .before .before .hunt-in .result) (c .before .before .before .before .before .before .before .before .before .hunt-in .last .0) (c .before .before .before .before .before .before .before .before .before .hunt-in .last .1 .1 .1 .0) (c .before .before .before .before .before .before .before .before .before .hunt-in .ensures) _ (here-pending atPending pendingRoom _ _ _ refl refl (c .before .before .set-pending .ensures))
+returns c =
+    let f = c .before .before .before .before .before .before .before .before .before in
+    let z = f .before .before .before .before .before .before .args in
+    rests (headsOf (z .line)) (z .rec .now) (z .s .now) (z .out .now) (z .start) (f .hunt-in .result) (f .hunt-in .last .1 .0) (f .hunt-in .last .1 .1 .1 .1 .0) (f .hunt-in .ensures) _ (here-pending atPending pendingRoom _ _ _ refl refl (c .before .before .set-pending .ensures))
 
 pub hunt-rest-spec : {M : Type 1} → statement M
 hunt-rest-spec =

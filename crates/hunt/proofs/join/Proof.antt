@@ -29,7 +29,7 @@ slice-aggregate-put-in c = sym (reach-long _ (c .before .before .before .before 
 put-in-requires-2 : tie.Need-put-in-requires-2
 put-in-requires-2 c κs =
     let z = c .before .before .before .before .before .before .before .before .before .before .before in
-    omega (arith, z .pre, c .before .before .before .before .put-in .ensures .0, c .before .before .before .before .put-in .kept, c .before .before .before .before .before .before .before .reach .ensures, reach-long _ (z .args .input .now) (c .before .before .before .before .before .before .before .reach .ensures), held-long (z .args .rec .now) (z .args .held) (z .pre .0) (z .pre .1))
+    omega (arith, z .pre, c .before .before .before .before .put-in .ensures .0, c .before .before .before .before .put-in .kept, c .before .before .before .before .before .before .before .reach .ensures, reach-long _ (z .args .input .now) (c .before .before .before .before .before .before .before .reach .ensures), held-long (z .args .rec .now) (z .args .at) (z .args .held) (z .pre .0))
 
 same-length : tie.Need-same-length
 same-length c = search needs
@@ -37,7 +37,7 @@ same-length c = search needs
 returns : tie.Need-returns
 returns c =
     let z = c .before .before .before .before .before .before .before .before .before .before .before .before .before .before in
-    joined-is (z .args .rec .now) (z .args .input .now) (z .args .head .now) _ _ (z .args .held) _ _ _ (z .pre .0) (z .pre .1) (z .pre .2) (c .before .before .before .before .before .before .before .before .before .before .reach .ensures)
+    joined-is (z .args .rec .now) (z .args .at) (z .args .held) (z .pre .0) (z .args .input .now) (z .args .head .now) _ _ _ _ _ (z .pre .1) (z .pre .2) (c .before .before .before .before .before .before .before .before .before .before .reach .ensures)
     (c .before .before .before .before .before .before .before .put-in .ensures .0) (c .before .before .before .before .before .before .before .put-in .ensures .1) (c .before .before .put-in2 .ensures .0) (c .before .before .put-in2 .ensures .1)
 
 pub join-spec : {M : Type 1} → statement M

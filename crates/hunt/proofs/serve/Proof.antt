@@ -1,16 +1,20 @@
 use Rattle.record.proofs.PlaceLaws.{here-pending}
 use native.Mathlib.Omega.{arith}
 use Prim.Native.Nat.{ℕ, _+_, _-_, _≤_, _<_}
-use mathlib.Core.Path.{_≡_, refl, sym}
+use mathlib.Core.Path.{_≡_, refl, sym, subst}
 use mathlib.Core.List.{List}
 use lib.ListN.{length, getD, take, drop}
 use Rattle.wire.specs.Sizes.{frameMost}
 use Rattle.hunt.specs.Hunt.{roomFor}
-use Rattle.record.specs.Layout.{recordSize, pendingRoom, atPending}
+use Rattle.record.specs.Layout.{recordSize, pendingRoom, atPending, recordOf}
 use Rattle.record.specs.Place.{Sound}
 use Rattle.record.proofs.PlaceLaws.{holds-long}
+use Rattle.wire.specs.Serial.{serial}
+use Rattle.wire.proofs.SerialLaws.{serial-huntable}
+use Rattle.hunt.specs.Progress.{Joins}
 use Rattle.hunt.proofs.GoingLaws.{going-sound}
-use Rattle.hunt.proofs.JoinLaws.{roomed, held-is, held-few, total-is, stream-long, first-kept, short-first, serves-first, rest-long, from-inside, rest-fits, serves-second}
+use Rattle.hunt.proofs.ServeLaws.{serves}
+use Rattle.hunt.proofs.JoinLaws.{roomed, held-is, held-few, held-inside, pending-part, total-is, stream-long, first-kept, short-first, ends-first, rest-long, from-inside, rest-fits, ends-second}
 use borrow.Author.Needs.{needs}
 use Rattle.hunt.proofs.serve.Statement.{statement}
 use Rattle.hunt.proofs.serve.Tie as tie
@@ -30,7 +34,7 @@ module _ (j : tie.After-join) where
   held = getD rec₀ atPending 0
 
   abbrev head : List ℕ
-  head = j .join .last .1 .1 .1 .0
+  head = j .join .last .1 .1 .1 .1 .0
 
   abbrev total : ℕ
   total = j .join .result
@@ -41,11 +45,17 @@ module _ (j : tie.After-join) where
   few : held ≤ pendingRoom
   few = held-few rec₀ sound
 
+  abbrev waiting : List ℕ
+  waiting = recordOf rec₀ .pending
+
+  joins : Joins waiting input total head
+  joins = subst (λ (p : List ℕ). Joins p input total head) (pending-part rec₀ sound) (j .join .ensures)
+
   long : length (take total head) ≡ total
-  long = stream-long rec₀ sound input out₀ head total (j .join .ensures)
+  long = stream-long waiting input head held total (held-is rec₀ sound) joins
 
   sum : total ≡ held + (length input - (length input - frameMost))
-  sum = total-is rec₀ sound input out₀ head total (j .join .ensures)
+  sum = total-is waiting input head held total (held-is rec₀ sound) joins
 
 -- behind the hunt through the joined head
 module _ (f : tie.After-hunt-in) where
@@ -56,27 +66,27 @@ module _ (f : tie.After-hunt-in) where
   at = f .hunt-in .result .at
 
   abbrev rec₁ : List ℕ
-  rec₁ = f .hunt-in .last .0
+  rec₁ = f .hunt-in .last .1 .0
 
   abbrev out₁ : List ℕ
-  out₁ = f .hunt-in .last .1 .1 .1 .0
+  out₁ = f .hunt-in .last .1 .1 .1 .1 .0
 
   within : at ≤ total j
   within = omega (arith, long j, f .hunt-in .ensures .going .sofar .along .within)
 
   waits-short : at < held j → (length rec₁ ≡ recordSize) × (length (take (total j - at) (drop at (head j))) ≤ pendingRoom)
   waits-short a = (
-    first-kept (rec₀ j) (sound j) (input j) (out₀ j) (head j) (total j) (j .join .ensures) (f .hunt-in .result) rec₁ out₁ (f .hunt-in .ensures),
-    short-first (rec₀ j) (sound j) (input j) (out₀ j) (head j) (total j) (j .join .ensures) (f .hunt-in .result) rec₁ out₁ (f .hunt-in .ensures) a,
+    first-kept (waiting j) (input j) (head j) (held j) (total j) (held-is (rec₀ j) (sound j)) (joins j) serial (recordOf (rec₀ j)) (out₀ j) (f .hunt-in .result) rec₁ out₁ (f .hunt-in .ensures),
+    short-first (waiting j) (input j) (head j) (held j) (total j) (held-is (rec₀ j) (sound j)) (joins j) serial (recordOf (rec₀ j)) (out₀ j) (f .hunt-in .result) rec₁ out₁ (f .hunt-in .ensures) serial-huntable a,
   )
 
   -- the hunt goes on in the input
   module _ (past : held j ≤ at) where
     starts : at - held j ≤ length (input j)
-    starts = from-inside (rec₀ j) (sound j) (input j) (out₀ j) (head j) (total j) (j .join .ensures) (f .hunt-in .result) rec₁ out₁ (f .hunt-in .ensures) past (j .before .before .before .before .before .before .before .pre .1 .1)
+    starts = from-inside (waiting j) (input j) (head j) (held j) (total j) (held-is (rec₀ j) (sound j)) (joins j) serial (recordOf (rec₀ j)) (out₀ j) (f .hunt-in .result) rec₁ out₁ (f .hunt-in .ensures) past (j .before .before .before .before .before .before .before .pre .1 .1)
 
     fits : f .hunt-in .result .wrote + roomFor (length (take (length (input j) - (at - held j)) (drop (at - held j) (input j)))) ≤ length out₁
-    fits = rest-fits (rec₀ j) (sound j) (input j) (out₀ j) (head j) (total j) (j .join .ensures) (f .hunt-in .result) rec₁ out₁ (f .hunt-in .ensures) past (j .before .before .before .before .before .before .before .pre .1 .1)
+    fits = rest-fits (waiting j) (input j) (head j) (held j) (total j) (held-is (rec₀ j) (sound j)) (joins j) serial (recordOf (rec₀ j)) (out₀ j) (f .hunt-in .result) rec₁ out₁ (f .hunt-in .ensures) past (j .before .before .before .before .before .before .before .pre .1 .1)
 
 slice-read-held : tie.Need-slice-read-held
 slice-read-held c = omega (arith, holds-long _ _ (c .before .before .before .before .pre .0))
@@ -88,7 +98,7 @@ slice-aggregate-join : tie.Need-slice-aggregate-join
 slice-aggregate-join c = search needs
 
 join-requires : tie.Need-join-requires
-join-requires c κs = let z = c .before .before .before .before .before .before in (omega (arith, holds-long _ _ (z .pre .0)), held-few (z .args .rec .now) (z .pre .0), refl)
+join-requires c κs = let z = c .before .before .before .before .before .before in (held-inside (z .args .rec .now) (z .pre .0), held-few (z .args .rec .now) (z .pre .0), refl)
 
 array-share-prefix-head : tie.Need-array-share-prefix-head
 array-share-prefix-head c = let j = c .before .before in omega (arith, sum j, few j, j .join .kept)
@@ -123,7 +133,7 @@ returns : tie.Need-returns
 returns c =
     let f = c .before .before .before .before .before .before .before .before .before .before .before in
     let j = f .before .before .before .before .before in
-    serves-first (rec₀ j) (sound j) (input j) (out₀ j) (head j) (total j) (j .join .ensures) (f .hunt-in .result) (rec₁ f) (out₁ f) (f .hunt-in .ensures) (c .before .before .before .before .before .before .if1 .taken) _ (here-pending atPending pendingRoom _ _ _ refl refl (c .before .before .set-pending .ensures))
+    serves (recordOf (rec₀ j)) (input j) (out₀ j) _ _ _ (ends-first (waiting j) (input j) (head j) (held j) (total j) (held-is (rec₀ j) (sound j)) (joins j) serial (recordOf (rec₀ j)) (out₀ j) (f .hunt-in .result) (rec₁ f) (out₁ f) (f .hunt-in .ensures) serial-huntable (c .before .before .before .before .before .before .if1 .taken) _ (here-pending atPending pendingRoom _ _ _ refl refl (c .before .before .set-pending .ensures)))
 
 sub-hunt-rest : tie.Need-sub-hunt-rest
 sub-hunt-rest c = starts (c .before .before .before .before .before .before) (omega (arith, c .before .if1 .left))
@@ -138,12 +148,12 @@ hunt-rest-requires : tie.Need-hunt-rest-requires
 hunt-rest-requires c κs =
     let f = c .before .before .before .before .before .before .before .before in
     let j = f .before .before .before .before .before in (
-      going-sound _ _ _ _ _ _ _ _ _ (f .hunt-in .ensures .going),
+      going-sound _ _ _ _ _ _ _ _ _ _ (f .hunt-in .ensures .going),
       (omega (arith, j .before .before .before .before .before .before .before .pre .1 .0, rest-long (input j) (at f - held j)), fits f (omega (arith, c .before .before .before .if1 .left))),
     )
 
-add-t35 : tie.Need-add-t35
-add-t35 c =
+add-t36 : tie.Need-add-t36
+add-t36 c =
     let f = c .before .before .before .before .before .before .before .before .before .before .before .before .before .before .before in
     let j = f .before .before .before .before .before in
     let x = c .before .before .before .before .before .before .hunt-rest .ensures .hunts .going .sofar .along in
@@ -161,7 +171,7 @@ returns-2 c =
     let f = c .before .before .before .before .before .before .before .before .before .before .before .before .before .before .before in
     let j = f .before .before .before .before .before in
     let rest = c .before .before .before .before .before .before .hunt-rest in
-    serves-second (rec₀ j) (sound j) (input j) (out₀ j) (head j) (total j) (j .join .ensures) (f .hunt-in .result) (rec₁ f) (out₁ f) (f .hunt-in .ensures) (omega (arith, c .before .before .before .before .before .before .before .before .before .before .if1 .left)) (j .before .before .before .before .before .before .before .pre .1 .1) (rest .result) _ _ (rest .ensures)
+    serves (recordOf (rec₀ j)) (input j) (out₀ j) _ _ _ (ends-second (waiting j) (input j) (head j) (held j) (total j) (held-is (rec₀ j) (sound j)) (joins j) serial (recordOf (rec₀ j)) (out₀ j) (f .hunt-in .result) (rec₁ f) (out₁ f) (f .hunt-in .ensures) (omega (arith, c .before .before .before .before .before .before .before .before .before .before .if1 .left)) (j .before .before .before .before .before .before .before .pre .1 .1) serial-huntable (rest .result) _ _ (rest .ensures))
 
 pub serve-spec : {M : Type 1} → statement M
 serve-spec =
@@ -185,7 +195,7 @@ serve-spec =
     part-hunt-rest-start
     part-hunt-rest-end
     hunt-rest-requires
-    add-t35
+    add-t36
     same-length-3
     same-length-4
     returns-2)
