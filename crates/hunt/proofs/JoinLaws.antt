@@ -23,7 +23,7 @@ use Rattle.command.specs.Step.{answer}
 use Rattle.hunt.specs.Progress.{Hunts, Rests, Joins}
 use Rattle.hunt.specs.declared.Progress.{Progress}
 use Rattle.hunt.proofs.GoingLaws.{going-kept}
-use Rattle.hunt.proofs.ServeLaws.{Ends, halted-short, head-short, ends-head, rest-starts, rest-room, ends-rest}
+use Rattle.hunt.proofs.ServeLaws.{ServesFor, halted-short, head-short, serves-head, rest-starts, rest-room, serves-rest}
 
 abbrev reached : List ℕ → ℕ
 reached i = length i - (length i - frameMost)
@@ -119,9 +119,9 @@ module _ (p input head : List ℕ) (held total : ℕ) (held-is : held ≡ length
       pub short-first : length (take (total - h .at) (drop (h .at) head)) ≤ pendingRoom
       short-first = rw waiting-part (head-short heads r p input before n refl h kept out found ok (rw held-is at a))
 
-      pub ends-first : (kept′ : List ℕ) → Turns kept kept′ (λ z. withPending z (take (total - h .at) (drop (h .at) head))) → Ends heads r (p ++ input) before (record { written = h .wrote; skipped = h .skipped }) kept′ out
-      ends-first kept′ t =
-          ends-head heads r p input before n refl h kept out found ok (rw held-is at a) kept′ (subst (λ (x : List ℕ). Turns kept kept′ (λ z. withPending z x)) waiting-part t)
+      pub serves-first : (kept′ : List ℕ) → Turns kept kept′ (λ z. withPending z (take (total - h .at) (drop (h .at) head))) → ServesFor heads r (p ++ input) before (record { written = h .wrote; skipped = h .skipped }) kept′ out
+      serves-first kept′ t =
+          serves-head heads r p input before n refl h kept out found ok (rw held-is at a) kept′ (subst (λ (x : List ℕ). Turns kept kept′ (λ z. withPending z x)) waiting-part t)
 
     module _ (past : held ≤ h .at) (room : roomFor (length p + length input) ≤ length before) where
       abbrev rest : List ℕ
@@ -139,8 +139,8 @@ module _ (p input head : List ℕ) (held total : ℕ) (held-is : held ≡ length
       pub rest-fits : h .wrote + roomFor (length rest) ≤ length out
       rest-fits = rw rest-is (rest-room heads r p input before n refl h kept out found past′ room)
 
-      pub ends-second : Huntable heads → (x : Progress) (kept₂ out₂ : List ℕ) → Rests heads (recordOf kept) rest out (h .wrote) x kept₂ out₂
-          → Ends heads r (p ++ input) before (record { written = x .wrote; skipped = h .skipped + x .skipped }) kept₂ out₂
-      ends-second ok x kept₂ out₂ y =
+      pub serves-second : Huntable heads → (x : Progress) (kept₂ out₂ : List ℕ) → Rests heads (recordOf kept) rest out (h .wrote) x kept₂ out₂
+          → ServesFor heads r (p ++ input) before (record { written = x .wrote; skipped = h .skipped + x .skipped }) kept₂ out₂
+      serves-second ok x kept₂ out₂ y =
           let y′ : Rests heads (recordOf kept) (drop (h .at - length p) input) out (h .wrote) x kept₂ out₂ = subst (λ (l : List ℕ). Rests heads (recordOf kept) l out (h .wrote) x kept₂ out₂) rest-is y in
-          ends-rest heads r p input before n refl h kept out found past′ room x (y′ .mid) out₂ (y′ .hunts) ok kept₂ (y′ .turns)
+          serves-rest heads r p input before n refl h kept out found past′ room x (y′ .mid) out₂ (y′ .hunts) ok kept₂ (y′ .turns)

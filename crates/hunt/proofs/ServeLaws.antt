@@ -29,16 +29,16 @@ use Rattle.hunt.specs.declared.Progress.{Progress}
 use Rattle.hunt.specs.declared.Served.{Served}
 
 -- what such a call leaves, by the heads and its whole stream
-pub record Ends (heads : Heads) (r : Record) (l before : List ℕ) (t : Served) (kept out : List ℕ) : Type 0 where
+pub record ServesFor (heads : Heads) (r : Record) (l before : List ℕ) (t : Served) (kept out : List ℕ) : Type 0 where
   pub record-is : kept ≡ bytesOf (recordAfter (hunt heads answer r l))
   pub written-is : t .written ≡ length (written (hunt heads answer r l .said))
   pub skipped-is : t .skipped ≡ hunt heads answer r l .skipped
   pub bytes : out ≡ put before 0 (written (hunt heads answer r l .said))
 
 -- the board's own call
-pub serves : (r : Record) (input before : List ℕ) (t : Served) (kept out : List ℕ) → Ends serial r (r .pending ++ input) before t kept out → Serves r input before t kept out
+pub serves-board : (r : Record) (input before : List ℕ) (t : Served) (kept out : List ℕ) → ServesFor serial r (r .pending ++ input) before t kept out → Serves r input before t kept out
 unfolding huntOf
-serves r input before t kept out e = record { record-is = e .record-is; written-is = e .written-is; skipped-is = e .skipped-is; bytes = e .bytes }
+serves-board r input before t kept out e = record { record-is = e .record-is; written-is = e .written-is; skipped-is = e .skipped-is; bytes = e .bytes }
 
 after-of : (h : Hunted Record Reply) → recordAfter h ≡ withPending (h .state) (h .waiting)
 unfolding recordAfter
@@ -84,10 +84,10 @@ module _ (p i : List ℕ) (n : ℕ) (n-is : n ≡ length i - (length i - 19)) wh
 -- ---- the end, by what was said
 
 module _ (heads : Heads) (r : Record) (p input before : List ℕ) where
-  ends : (b : Record) (said : List Reply) (k wrote : ℕ) (rest kept out : List ℕ)
+  serves-said : (b : Record) (said : List Reply) (k wrote : ℕ) (rest kept out : List ℕ)
       → hunt heads answer r (p ++ input) ≡ record { state = b; said = said; skipped = k; waiting = rest } → kept ≡ bytesOf (withPending b rest)
-      → wrote ≡ length (written said) → out ≡ put before 0 (written said) → Ends heads r (p ++ input) before (record { written = wrote; skipped = k }) kept out
-  ends b said k wrote rest kept out h e w o = record { record-is = rw (h, after-of) e; written-is = rw h w; skipped-is = rw h refl; bytes = rw h o }
+      → wrote ≡ length (written said) → out ≡ put before 0 (written said) → ServesFor heads r (p ++ input) before (record { written = wrote; skipped = k }) kept out
+  serves-said b said k wrote rest kept out h e w o = record { record-is = rw (h, after-of) e; written-is = rw h w; skipped-is = rw h refl; bytes = rw h o }
 
   module _ (n : ℕ) (n-is : n ≡ length input - (length input - 19)) (h : Progress) (kept out : List ℕ)
       (f : Hunts heads r (p ++ take n input) before (length p) 0 h kept out) where
@@ -105,10 +105,10 @@ module _ (heads : Heads) (r : Record) (p input before : List ℕ) where
       pub head-short : length (drop (h .at) head) ≤ 18
       head-short = halted-short heads ok (f .going .board) (drop (h .at) head) (all .1)
 
-      pub ends-head : (kept′ : List ℕ) → Turns kept kept′ (λ x. withPending x (drop (h .at) head)) → Ends heads r (p ++ input) before (record { written = h .wrote; skipped = h .skipped }) kept′ out
-      ends-head kept′ t =
+      pub serves-head : (kept′ : List ℕ) → Turns kept kept′ (λ x. withPending x (drop (h .at) head)) → ServesFor heads r (p ++ input) before (record { written = h .wrote; skipped = h .skipped }) kept′ out
+      serves-head kept′ t =
           let g = f .going in
-          ends (g .board) (g .sofar .said) (h .skipped) (h .wrote) (drop (h .at) head) kept′ out
+          serves-said (g .board) (g .sofar .said) (h .skipped) (h .wrote) (drop (h .at) head) kept′ out
           (ap (hunt heads answer r) (sym (all .0)) ∙ along-end Record Reply heads answer r head (g .board) (h .at) (h .skipped) (g .sofar .said) (g .sofar .along) (all .1))
           (t (g .board) (g .held .fit) (g .held .same)) (g .sofar .wrote-is ∙ zero-add _) (g .sofar .bytes)
 
@@ -129,8 +129,8 @@ module _ (heads : Heads) (r : Record) (p input before : List ℕ) where
         end-halts : hunt heads answer (y .going .board) (drop (x .at) rest) ≡ halt (y .going .board) (drop (x .at) rest)
         end-halts = stopped Record Reply heads answer (y .going .board) rest (x .at) (length rest) (omega arith) (y .stops)
 
-        pub ends-rest : Huntable heads → (kept₃ : List ℕ) → Turns kept₂ kept₃ (λ z. withPending z (drop (x .at) rest)) → Ends heads r (p ++ input) before (record { written = x .wrote; skipped = h .skipped + x .skipped }) kept₃ out₂
-        ends-rest ok kept₃ t =
+        pub serves-rest : Huntable heads → (kept₃ : List ℕ) → Turns kept₂ kept₃ (λ z. withPending z (drop (x .at) rest)) → ServesFor heads r (p ++ input) before (record { written = x .wrote; skipped = h .skipped + x .skipped }) kept₃ out₂
+        serves-rest ok kept₃ t =
             let g = f .going in
             let u = y .going in
             let said = g .sofar .said in
@@ -141,7 +141,7 @@ module _ (heads : Heads) (r : Record) (p input before : List ℕ) where
             let second : hunt heads answer (g .board) rest ≡ record { state = u .board; said = more; skipped = x .skipped; waiting = drop (x .at) rest } =
             ap (λ (b : Record). hunt heads answer b rest) (sym (holds-is (g .board) kept (g .held)))
             ∙ along-end Record Reply heads answer (recordOf kept) rest (u .board) (x .at) (x .skipped) more (u .sofar .along) end-halts in
-            ends (u .board) (said ++ more) (h .skipped + x .skipped) (x .wrote) (drop (x .at) rest) kept₃ out₂ (first ∙ rw second refl)
+            serves-said (u .board) (said ++ more) (h .skipped + x .skipped) (x .wrote) (drop (x .at) rest) kept₃ out₂ (first ∙ rw second refl)
             (t (u .board) (u .held .fit) (u .held .same))
             (u .sofar .wrote-is ∙ rw (v, g .sofar .wrote-is, zero-add) (sym (length-append (written said) (written more))))
             (u .sofar .bytes ∙ rw (v, g .sofar .wrote-is, g .sofar .bytes) (put-put before 0 (written said) (written more) said-fits))

@@ -13,8 +13,8 @@ use Rattle.wire.specs.Serial.{serial}
 use Rattle.wire.proofs.SerialLaws.{serial-huntable}
 use Rattle.hunt.specs.Progress.{Joins}
 use Rattle.hunt.proofs.GoingLaws.{going-sound}
-use Rattle.hunt.proofs.ServeLaws.{serves}
-use Rattle.hunt.proofs.JoinLaws.{roomed, held-is, held-few, held-inside, pending-part, total-is, stream-long, first-kept, short-first, ends-first, rest-long, from-inside, rest-fits, ends-second}
+use Rattle.hunt.proofs.ServeLaws.{serves-board}
+use Rattle.hunt.proofs.JoinLaws.{roomed, held-is, held-few, held-inside, pending-part, total-is, stream-long, first-kept, short-first, serves-first, rest-long, from-inside, rest-fits, serves-second}
 use borrow.Author.Needs.{needs}
 use Rattle.hunt.proofs.serve.Statement.{statement}
 use Rattle.hunt.proofs.serve.Tie as tie
@@ -133,7 +133,7 @@ returns : tie.Need-returns
 returns c =
     let f = c .before .before .before .before .before .before .before .before .before .before .before in
     let j = f .before .before .before .before .before in
-    serves (recordOf (rec₀ j)) (input j) (out₀ j) _ _ _ (ends-first (waiting j) (input j) (head j) (held j) (total j) (held-is (rec₀ j) (sound j)) (joins j) serial (recordOf (rec₀ j)) (out₀ j) (f .hunt-in .result) (rec₁ f) (out₁ f) (f .hunt-in .ensures) serial-huntable (c .before .before .before .before .before .before .if1 .taken) _ (here-pending atPending pendingRoom _ _ _ refl refl (c .before .before .set-pending .ensures)))
+    serves-board (recordOf (rec₀ j)) (input j) (out₀ j) _ _ _ (serves-first (waiting j) (input j) (head j) (held j) (total j) (held-is (rec₀ j) (sound j)) (joins j) serial (recordOf (rec₀ j)) (out₀ j) (f .hunt-in .result) (rec₁ f) (out₁ f) (f .hunt-in .ensures) serial-huntable (c .before .before .before .before .before .before .if1 .taken) _ (here-pending atPending pendingRoom _ _ _ refl refl (c .before .before .set-pending .ensures)))
 
 sub-hunt-rest : tie.Need-sub-hunt-rest
 sub-hunt-rest c = starts (c .before .before .before .before .before .before) (omega (arith, c .before .if1 .left))
@@ -171,7 +171,7 @@ returns-2 c =
     let f = c .before .before .before .before .before .before .before .before .before .before .before .before .before .before .before in
     let j = f .before .before .before .before .before in
     let rest = c .before .before .before .before .before .before .hunt-rest in
-    serves (recordOf (rec₀ j)) (input j) (out₀ j) _ _ _ (ends-second (waiting j) (input j) (head j) (held j) (total j) (held-is (rec₀ j) (sound j)) (joins j) serial (recordOf (rec₀ j)) (out₀ j) (f .hunt-in .result) (rec₁ f) (out₁ f) (f .hunt-in .ensures) (omega (arith, c .before .before .before .before .before .before .before .before .before .before .if1 .left)) (j .before .before .before .before .before .before .before .pre .1 .1) serial-huntable (rest .result) _ _ (rest .ensures))
+    serves-board (recordOf (rec₀ j)) (input j) (out₀ j) _ _ _ (serves-second (waiting j) (input j) (head j) (held j) (total j) (held-is (rec₀ j) (sound j)) (joins j) serial (recordOf (rec₀ j)) (out₀ j) (f .hunt-in .result) (rec₁ f) (out₁ f) (f .hunt-in .ensures) (omega (arith, c .before .before .before .before .before .before .before .before .before .before .if1 .left)) (j .before .before .before .before .before .before .before .pre .1 .1) serial-huntable (rest .result) _ _ (rest .ensures))
 
 pub serve-spec : {M : Type 1} → statement M
 serve-spec =
