@@ -11,10 +11,10 @@ use lib.Seq.{length-take-le, take-take}
 use lib.Dec.{eqb}
 use borrow.Author.Tests.{lt-ltb, le-ltb}
 use Rattle.wire.specs.Numbers.{bytesAt, put}
+use Rattle.wire.specs.Zeros.{beforeZero}
 use Rattle.wire.proofs.NumberLaws.{part-is}
 use Rattle.wire.proofs.PutLaws.{put-nil, put-one, put-two, put-four, put-put, put-byte}
 use Rattle.record.specs.Record.{Record}
-use Rattle.record.specs.Limits.{beforeZero}
 use Rattle.record.specs.Layout.{recordSize, nameRoom, modelRoom, atName, atNameBytes, atInputs, atPower, atFilter, atPairs, bitOf, recordOf}
 use Rattle.record.specs.Place.{Sound}
 use Rattle.record.proofs.Parts.{part-at, cut-take, cut-le}

@@ -5,8 +5,8 @@ ghost use mathlib.Core.List.{[], _∷_};
 ghost use Prim.Native.Nat.{_+_, _-_, _*_, _≤_};
 ghost use lib.ListN.{length, getD, take};
 ghost use Rattle.wire.specs.Numbers.{bytesAt, put};
+ghost use Rattle.wire.specs.Zeros.{beforeZero};
 ghost use Rattle.wire.specs.declared.Range.the-variants.{Fits};
-ghost use Rattle.record.specs.Limits.{beforeZero};
 ghost use Rattle.record.specs.Layout.{nameRoom, modelRoom, atInputs, atName, atNameBytes, bitOf, recordOf};
 ghost use Rattle.record.specs.Place.{Sound};
 ghost use Rattle.command.specs.declared.Counted.the-variants.{Right};
@@ -14,7 +14,6 @@ ghost use Rattle.command.specs.Tables.{countedOf, rangeOf};
 ghost use Rattle.command.specs.Effects.{dataOf, closedModel};
 ghost use Rattle.answer.specs.Answers.{Answers};
 use command::Command;
-use form::first_zero;
 use record::places::AT_FILTER;
 use record::places::AT_FLAGS;
 use record::places::AT_INTERVAL;
@@ -29,6 +28,7 @@ use record::places::AT_STEP;
 use record::places::BEFORE_INPUTS;
 use record::places::MODEL_ROOM;
 use wire::buffer::put_in;
+use wire::zeros::first_zero;
 
 fn put_one(out: &mut [u8], at: usize, a: u8) -> usize
     requires { ⌜ at + 15 ≤ length (now out) ⌝ }

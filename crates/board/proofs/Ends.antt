@@ -10,8 +10,8 @@ use borrow.Author.Tests.{eq-eqb, ne-eqb, eqb-true}
 use Rattle.wire.specs.Numbers.{Bytes}
 use Rattle.wire.proofs.PutLaws.{put-nil}
 use Rattle.peak.proofs.PairLaws.{both}
-use Rattle.record.specs.Layout.{recordSize, bytesOf, recordOf}
-use Rattle.record.specs.Form.{fieldsOf, allFine, wellFormed, formBy, formOf}
+use Rattle.record.specs.Layout.{current, recordSize, bytesOf, recordOf}
+use Rattle.record.specs.Form.{fieldsIn, allFine, wellFormed, formBy, formOf}
 use Rattle.record.specs.Births.{factory, poweredOn}
 use Rattle.record.specs.Place.{Sound, Turns}
 use Rattle.record.specs.declared.Form.the-variants.{Good, Bad}
@@ -37,7 +37,7 @@ good-well s e = good-by (wellFormed s) e
 
 well-long : (s : List ℕ) → wellFormed s ≡ true → length s ≡ recordSize
 unfolding wellFormed
-well-long s w = eqb-true (length s) recordSize (both (eqb (length s) recordSize) (allFine (fieldsOf s)) w .0)
+well-long s w = eqb-true (length s) recordSize (both (eqb (length s) recordSize) (allFine (fieldsIn current s)) w .0)
 
 pub good-long : (s : List ℕ) → formOf s ≡ Good → length s ≡ recordSize
 good-long s e = well-long s (good-well s e)

@@ -12,11 +12,12 @@ use Rattle.record.proofs.Parts.{cut-le, cut-cut, cut-bytes}
 use lib.Dec.{ltb, leb}
 use Rattle.wire.specs.Numbers.{Bytes, halfAt}
 use Rattle.wire.specs.Ranges.{also}
+use Rattle.wire.specs.Zeros.{beforeZero}
 use Rattle.wire.specs.Serial.{headOf, numberOf, paramsOf}
 use Rattle.wire.specs.declared.Range.{Range}
 use Rattle.wire.specs.declared.Range.the-variants.{Fits, Big, Small}
 use Rattle.record.specs.Record.{Record}
-use Rattle.record.specs.Limits.{inputRange, beforeZero}
+use Rattle.record.specs.Limits.{inputRange}
 use Rattle.record.specs.Form.{InRange}
 use Rattle.command.specs.declared.Command.{Command}
 use Rattle.command.specs.declared.Command.the-variants.{Open, Close, ReadPower, SetPower, ReadStep, SetStep, ReadMode, SetMode, ReadName, SetName, ReadOnOff, SetOnOff, SetInput, ReadInput, SwitchOutput, SetInterval, ReadInterval, Unlock, ReadLock, ReadModel, SetModel, StopSending, StartSending, ReadFilter, SetFilter, ReadPair}

@@ -5,9 +5,9 @@ use mathlib.Core.List.{List}
 use native.Mathlib.Nat.{le-trans}
 use lib.ListN.{length}
 use Rattle.wire.specs.Numbers.{Bytes, wordAt}
+use Rattle.wire.specs.Zeros.{beforeZero}
 use Rattle.wire.specs.declared.Range.the-variants.{Fits}
 use Rattle.record.specs.Record.{Record, withFilter}
-use Rattle.record.specs.Limits.{beforeZero}
 use Rattle.record.specs.Layout.{Plan, PowerHalf, has, modelRoom}
 use Rattle.record.specs.Form.{Unless, Silent, InRangeIn}
 use Rattle.record.proofs.Parts.{cut-le, cut-cut, cut-bytes}

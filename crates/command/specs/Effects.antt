@@ -5,9 +5,9 @@ use mathlib.Core.List.{List, [], _∷_, _++_}
 use lib.ListN.{length, getD, set}
 use lib.Dec.{ltb, eqb}
 use Rattle.wire.specs.Numbers.{halfAt, wordAt, bytes2, bytes4}
+use Rattle.wire.specs.Zeros.{beforeZero}
 use Rattle.peak.specs.Pairs.{noPair, pairBytes}
 use Rattle.record.specs.Record.{Record, withFlags, withSettings, withOutputs, withModel, withOpened, withUnlocked, withSending, withOutput, withPower, withStep, withMode, withOnOff, withInputs, withInterval, withFilter, withName}
-use Rattle.record.specs.Limits.{beforeZero}
 use Rattle.record.specs.Layout.{modelRoom}
 use Rattle.command.specs.declared.Command.{Command}
 use Rattle.command.specs.declared.Command.the-variants.{Open, Close, ReadPower, SetPower, ReadStep, SetStep, ReadMode, SetMode, ReadName, SetName, ReadOnOff, SetOnOff, SetInput, ReadInput, SwitchOutput, SetInterval, ReadInterval, Unlock, ReadLock, ReadModel, SetModel, StopSending, StartSending, ReadFilter, SetFilter, ReadPair}

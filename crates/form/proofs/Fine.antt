@@ -11,15 +11,16 @@ use borrow.Author.Tests.{lt-leb, le-leb, eq-eqb, ne-eqb}
 use Rattle.wire.specs.Numbers.{bytesAt}
 use Rattle.wire.specs.Ranges.{fits, also}
 use Rattle.wire.specs.declared.Range.the-variants.{Fits, Big}
+use Rattle.wire.specs.Zeros.{allZero, zerosBehind, beforeZero}
 use Rattle.wire.specs.Frames.{waits}
 use Rattle.wire.specs.Serial.{serial}
 use Rattle.wire.proofs.NumberLaws.{length-part, part-all, part-is, drop-take}
+use Rattle.wire.proofs.ScanLaws.{part, behind-is}
 use Rattle.record.specs.Layout.{recordSize, nameRoom, modelRoom, pendingRoom, atName, atNameBytes, atModel, atPending, atWaiting, atPairs}
-use Rattle.record.specs.Limits.{nameRange, beforeZero}
-use Rattle.record.specs.Form.{Field, allZero, zerosBehind, partFits, allFine, headFields, radioFields, inputFields, switchFields, nameFields, modelFields, pendingFields, pairFields, groupsOf, join, wellFormed, formBy, formOf}
+use Rattle.record.specs.Limits.{nameRange}
+use Rattle.record.specs.Form.{Field, partFits, allFine, wellFormed, formBy, formOf}
 use Rattle.record.specs.declared.Form.the-variants.{Good, Bad}
-use Rattle.record.proofs.Parts.{behind-is}
-use Rattle.form.proofs.Scan.{part}
+use Rattle.form.specs.Groups.{headFields, radioFields, inputFields, switchFields, nameFields, modelFields, pendingFields, pairFields, groupsOf, join}
 
 -- the part behind the bytes in use, by the places where it starts and ends
 part-behind : (s : List ℕ) (at room n : ℕ) → at + room ≤ length s → n ≤ room → drop n (bytesAt room s at) ≡ part s (at + n) (at + room)

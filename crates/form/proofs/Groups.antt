@@ -17,8 +17,9 @@ use Rattle.peak.specs.Pairs.{finite, pairFits, pairAt}
 use Rattle.peak.specs.Floats.{floatOf}
 use Rattle.peak.proofs.Order.{pair-test}
 use Rattle.record.specs.Layout.{channels, nameRoom, atFlags, atPairs, bitOf}
-use Rattle.record.specs.Form.{several, allFine, headFields, radioFields, inputFields, switchFields, pairFields}
-use Rattle.form.proofs.Tests.{fits-low, fits-filter}
+use Rattle.record.specs.Form.{several, allFine}
+use Rattle.limits.proofs.Tests.{fits-low, fits-filter}
+use Rattle.form.specs.Groups.{headFields, radioFields, inputFields, switchFields, pairFields}
 
 module _ (s : List ℕ) where
   pub head-is : (length : ℕ) → length ≡ halfAt s 0 → (((eqb length 123 && eqb (getD s 2 0) 1) && ltb (getD s 3 0) 16) && leb (getD s 4 0) 3) ≡ allFine (headFields s)

@@ -1,5 +1,3 @@
-pub mod Tests
 pub mod Groups
-pub mod Scan
 pub mod Pending
 pub mod Fine

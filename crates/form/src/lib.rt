@@ -1,16 +1,25 @@
 // Which bytes are a board record: one function for each group of fields, in record order.
 ghost use mathlib.Core.Path.{_≡_};
 ghost use mathlib.Core.Bool.{true, false};
-ghost use Prim.Native.Nat.{_+_, _-_, _*_, _≤_};
+ghost use Prim.Native.Nat.{_+_, _*_, _≤_};
 ghost use lib.ListN.{length, take, drop};
 ghost use Rattle.wire.specs.Numbers.{bytesAt};
 ghost use Rattle.wire.specs.Ranges.{fits};
+ghost use Rattle.wire.specs.Zeros.{zerosBehind};
 ghost use Rattle.wire.specs.Frames.{waits};
 ghost use Rattle.wire.specs.Serial.{serial};
 ghost use Rattle.peak.specs.Pairs.{pairFits, pairAt};
 ghost use Rattle.record.specs.Layout.{recordSize, channels, nameRoom, modelRoom, atCode, atInputs, atOutputs, atName, atModel, atPairs};
-ghost use Rattle.record.specs.Limits.{powerRange, intervalRange, nameRange, beforeZero};
-ghost use Rattle.record.specs.Form.{several, allFine, allZero, zerosBehind, headFields, radioFields, inputFields, switchFields, nameFields, pendingFields, pairFields, formOf};
+ghost use Rattle.record.specs.Limits.{nameRange};
+ghost use Rattle.record.specs.Form.{several, allFine, formOf};
+ghost use Rattle.form.specs.Groups.{headFields, radioFields, inputFields, switchFields, nameFields, pendingFields, pairFields};
+use limits::INPUT_TYPE_MOST;
+use limits::MODE_MOST;
+use limits::NAME_BYTE_MOST;
+use limits::ON_OFF_MOST;
+use limits::STEP_MOST;
+use limits::interval_fits;
+use limits::power_fits;
 use peak::finite_float;
 use peak::is_finite;
 use record::Form;
@@ -44,6 +53,8 @@ use wire::Line;
 use wire::heads::announced_by;
 use wire::numbers::half_at;
 use wire::numbers::word_at;
+use wire::zeros::first_zero;
+use wire::zeros::zeros;
 
 fn head_fine(s: &[u8]) -> bool
     requires { ⌜ atCode ≤ length (now s) ⌝ }
@@ -55,103 +66,31 @@ fn head_fine(s: &[u8]) -> bool
         & (s[AT_TRIES] <= 3)
 }
 
-fn power_fine(w: u16) -> bool
-    ensures { λ r. ⌜ r ≡ fits (powerRange w) ⌝ }
-{
-    (w <= 12) | (65516 <= w)
-}
-
-fn interval_fine(b: u8) -> bool
-    ensures { λ r. ⌜ r ≡ fits (intervalRange b) ⌝ }
-{
-    (b == 0) | ((4 <= b) & (b <= 59))
-}
-
 fn radio_fine(s: &[u8]) -> bool
     requires { ⌜ atInputs ≤ length (now s) ⌝ }
     ensures { λ r. ⌜ r ≡ allFine (radioFields (now (s .entry))) ⌝ }
 {
-    let power = power_fine(half_at(s, AT_POWER));
-    power & (s[AT_STEP] <= 5) & (s[AT_MODE] <= 1) & (s[AT_ON_OFF] <= 2)
+    let power = power_fits(half_at(s, AT_POWER));
+    power & (s[AT_STEP] <= STEP_MOST) & (s[AT_MODE] <= MODE_MOST) & (s[AT_ON_OFF] <= ON_OFF_MOST)
 }
 
 fn inputs_fine(s: &[u8]) -> bool
     requires { ⌜ atOutputs ≤ length (now s) ⌝ }
     ensures { λ r. ⌜ r ≡ allFine (inputFields (now (s .entry))) ⌝ }
 {
-    (s[AT_INPUTS] <= 1)
-        & (s[AT_INPUTS + 1] <= 1)
-        & (s[AT_INPUTS + 2] <= 1)
-        & (s[AT_INPUTS + 3] <= 1)
-        & (s[AT_INPUTS + 4] <= 1)
+    (s[AT_INPUTS] <= INPUT_TYPE_MOST)
+        & (s[AT_INPUTS + 1] <= INPUT_TYPE_MOST)
+        & (s[AT_INPUTS + 2] <= INPUT_TYPE_MOST)
+        & (s[AT_INPUTS + 3] <= INPUT_TYPE_MOST)
+        & (s[AT_INPUTS + 4] <= INPUT_TYPE_MOST)
 }
 
 fn switches_fine(s: &[u8]) -> bool
     requires { ⌜ atName ≤ length (now s) ⌝ }
     ensures { λ r. ⌜ r ≡ allFine (switchFields (now (s .entry))) ⌝ }
 {
-    let interval = interval_fine(s[AT_INTERVAL]);
+    let interval = interval_fits(s[AT_INTERVAL]);
     (s[AT_OUTPUTS] < 16) & interval & (word_at(s, AT_FILTER) < FILTERS)
-}
-
-// The place behind those words of four zeros that stand from a place on.
-fn past_zeros(s: &[u8], from: usize, to: usize) -> usize
-    requires { ⌜ (from ≤ to) × (to ≤ length (now s)) ⌝ }
-    ensures { λ r. ⌜ (r ≤ to) × (allZero (take (to - from) (drop from (now (s .entry)))) ≡ allZero (take (to - r) (drop r (now (s .entry))))) ⌝ }
-{
-    let mut behind = from;
-    while 4 <= to - behind {
-        if word_at(s, behind) != 0 {
-            return behind;
-        }
-        behind += 4;
-    }
-    behind
-}
-
-// Whether the bytes from a place up to another are all zero.
-fn zeros(s: &[u8], from: usize, to: usize) -> bool
-    requires { ⌜ (from ≤ to) × (to ≤ length (now s)) ⌝ }
-    ensures { λ r. ⌜ r ≡ allZero (take (to - from) (drop from (now (s .entry)))) ⌝ }
-{
-    let mut at = past_zeros(s, from, to);
-    while at < to {
-        if s[at] != 0 {
-            return false;
-        }
-        at += 1;
-    }
-    true
-}
-
-// Whether the bytes from a place up to another may stand in a name.
-pub fn name_bytes(s: &[u8], from: usize, to: usize) -> bool
-    requires { ⌜ (from ≤ to) × (to ≤ length (now s)) ⌝ }
-    ensures { λ r. ⌜ r ≡ fits (nameRange (take (to - from) (drop from (now (s .entry))))) ⌝ }
-{
-    let mut at = from;
-    while at < to {
-        if s[at] > 0x7F {
-            return false;
-        }
-        at += 1;
-    }
-    true
-}
-
-// The place of the first zero from a place on, or the end.
-pub fn first_zero(s: &[u8], from: usize, to: usize) -> usize
-    requires { ⌜ (from ≤ to) × (to ≤ length (now s)) ⌝ }
-    ensures { λ r. ⌜ (r ≡ from + length (beforeZero (take (to - from) (drop from (now (s .entry)))))) × (r ≤ to) ⌝ }
-{
-    let mut at = from;
-    while at < to {
-        if s[at] == 0 {
-            return at;
-        }
-        at += 1;
-    }
-    at
 }
 
 // Whether the whole room of the name holds bytes that may stand in one: zeros behind it may.
@@ -159,21 +98,21 @@ fn name_room(p: &[u8]) -> bool
     requires { ⌜ length (now p) ≡ nameRoom ⌝ }
     ensures { λ r. ⌜ r ≡ fits (nameRange (bytesAt nameRoom (now (p .entry)) 0)) ⌝ }
 {
-    (p[0] <= 0x7F)
-        & (p[1] <= 0x7F)
-        & (p[2] <= 0x7F)
-        & (p[3] <= 0x7F)
-        & (p[4] <= 0x7F)
-        & (p[5] <= 0x7F)
-        & (p[6] <= 0x7F)
-        & (p[7] <= 0x7F)
-        & (p[8] <= 0x7F)
-        & (p[9] <= 0x7F)
-        & (p[10] <= 0x7F)
-        & (p[11] <= 0x7F)
-        & (p[12] <= 0x7F)
-        & (p[13] <= 0x7F)
-        & (p[14] <= 0x7F)
+    (p[0] <= NAME_BYTE_MOST)
+        & (p[1] <= NAME_BYTE_MOST)
+        & (p[2] <= NAME_BYTE_MOST)
+        & (p[3] <= NAME_BYTE_MOST)
+        & (p[4] <= NAME_BYTE_MOST)
+        & (p[5] <= NAME_BYTE_MOST)
+        & (p[6] <= NAME_BYTE_MOST)
+        & (p[7] <= NAME_BYTE_MOST)
+        & (p[8] <= NAME_BYTE_MOST)
+        & (p[9] <= NAME_BYTE_MOST)
+        & (p[10] <= NAME_BYTE_MOST)
+        & (p[11] <= NAME_BYTE_MOST)
+        & (p[12] <= NAME_BYTE_MOST)
+        & (p[13] <= NAME_BYTE_MOST)
+        & (p[14] <= NAME_BYTE_MOST)
 }
 
 fn name_fine(s: &[u8]) -> bool

@@ -6,10 +6,10 @@ use native.Mathlib.Omega.{arith}
 use lib.ListN.{length, take, drop, set, replicate}
 use lib.Seq.{sets, take-all}
 use Rattle.wire.specs.Numbers.{bytesAt, put}
+use Rattle.wire.specs.Zeros.{beforeZero}
 use Rattle.wire.proofs.NumberLaws.{length-part}
 use Rattle.wire.proofs.PutLaws.{put-put, put-sets}
 use Rattle.record.specs.Record.{withName, withSettings, withModel, withPending}
-use Rattle.record.specs.Limits.{beforeZero}
 use Rattle.record.specs.Layout.{NamePart, ModelPart, nameRoom, modelRoom, atName}
 use Rattle.record.specs.Place.{TurnsAt, TurnsPending}
 use Rattle.record.proofs.Parts.{padded, cut-take}

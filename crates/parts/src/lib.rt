@@ -6,17 +6,17 @@ ghost use Prim.Native.Nat.{_+_, _-_, _≤_};
 ghost use lib.ListN.{length};
 ghost use lib.Seq.{sets};
 ghost use Rattle.wire.specs.Numbers.{bytesAt};
+ghost use Rattle.wire.specs.Zeros.{beforeZero};
 ghost use Rattle.record.specs.Record.{withName, withSettings, withModel, withPending};
-ghost use Rattle.record.specs.Limits.{beforeZero};
 ghost use Rattle.record.specs.Layout.{NamePart, ModelPart, nameRoom, modelRoom, atName, atNameBytes};
 ghost use Rattle.record.specs.Place.{TurnsAt, TurnsPending};
-use form::first_zero;
 use record::places::AT_MODEL;
 use record::places::AT_NAME;
 use record::places::AT_NAME_BYTES;
 use record::places::MODEL_ROOM;
 use wire::buffer::clear;
 use wire::buffer::put_in;
+use wire::zeros::first_zero;
 
 // Writes a part and zeros behind it, so that no old byte is left in its room.
 fn put_part(rec: &mut [u8], at: usize, end: usize, p: &[u8])

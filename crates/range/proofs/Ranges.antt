@@ -1,16 +1,17 @@
 -- What the code finds of a parameter is what its range says.
 use Prim.Native.Nat.{ℕ, _-_, _≤_}
 use mathlib.Core.Path.{_≡_, refl, sym, ap, _∙_}
-use mathlib.Core.Bool.{Bool, true, false, cond}
+use mathlib.Core.Bool.{Bool, true, false, cond, _&&_, true≢false}
 use mathlib.Core.List.{List, [], _∷_}
 use native.Mathlib.Omega.{arith}
 use lib.ListN.{length, take, drop}
 use lib.Seq.{take-all}
-use lib.Dec.{leb}
+use lib.Dec.{ltb, leb}
 use Rattle.wire.specs.Ranges.{fits, also}
 use Rattle.wire.specs.declared.Range.{Range}
-use Rattle.wire.specs.declared.Range.the-variants.{Fits, Big}
-use Rattle.record.specs.Limits.{nameRange}
+use Rattle.wire.specs.declared.Range.the-variants.{Fits, Big, Small}
+use Rattle.record.specs.Limits.{powerRange, intervalRange, nameRange}
+use Rattle.record.proofs.Bounds.{power-range, interval-range}
 use Rattle.command.specs.declared.Command.{Command}
 use Rattle.command.specs.declared.Counted.the-variants.{Right}
 use Rattle.command.specs.Tables.{spanOf, countedOf}
@@ -19,6 +20,29 @@ use Rattle.command.proofs.Keep.{counted-span}
 -- so many parameters are there once the command is known
 pub enough : (c d : Command) (n : ℕ) → c ≡ d → countedOf c n ≡ Right → spanOf d .least ≤ n
 enough c d n e h = rw e at (counted-span c n h .0)
+
+-- on which side a value is that does not fit
+abbrev pub side : Bool → Range
+side big = cond big Big Small
+
+pub power-missed : (w : ℕ) → fits (powerRange w) ≡ false → powerRange w ≡ side (ltb w 32768)
+power-missed w = rw (power-range w) (by (ltb w 32768) (ltb 12 w) (ltb w 65516))
+  where
+    by : (t a b : Bool) → fits (cond t (cond a Big Fits) (cond b Small Fits)) ≡ false → cond t (cond a Big Fits) (cond b Small Fits) ≡ side t
+    by true true b e = refl
+    by true false b e = absurd (true≢false e)
+    by false a true e = refl
+    by false a false e = absurd (true≢false e)
+
+pub interval-missed : (b : ℕ) → fits (intervalRange b) ≡ false → intervalRange b ≡ side (ltb 59 b && ltb b 128)
+interval-missed b = rw (interval-range b) (by (ltb b 128) (ltb 59 b) (ltb 0 b && ltb b 4))
+  where
+    by : (t a gap : Bool) → fits (cond t (cond a Big (cond gap Small Fits)) Small) ≡ false → cond t (cond a Big (cond gap Small Fits)) Small ≡ side (a && t)
+    by true true gap e = refl
+    by true false true e = refl
+    by true false false e = absurd (true≢false e)
+    by false true gap e = refl
+    by false false gap e = refl
 
 -- a name is never too small
 name-range : (p : List ℕ) → nameRange p ≡ cond (fits (nameRange p)) Fits Big

@@ -8,7 +8,14 @@ ghost use Rattle.record.specs.Limits.{powerRange, intervalRange, filterRange, n
 ghost use Rattle.command.specs.declared.Counted.the-variants.{Right};
 ghost use Rattle.command.specs.Tables.{countedOf, rangeOf};
 use command::Command;
-use form::name_bytes;
+use limits::INPUT_TYPE_MOST;
+use limits::INTERVAL_MOST;
+use limits::MODE_MOST;
+use limits::ON_OFF_MOST;
+use limits::STEP_MOST;
+use limits::interval_fits;
+use limits::name_bytes;
+use limits::power_fits;
 use record::places::CHANNELS;
 use record::places::FILTERS;
 use wire::Range;
@@ -37,37 +44,30 @@ fn signed_range(low: u8, high: u8, b: u8) -> Range
     unsigned_range(low, high, b)
 }
 
-// -20 is 65516.
+// A power from 8000 on is a number below 0.
 fn power_range(w: u16) -> Range
     ensures { λ r. ⌜ r ≡ powerRange w ⌝ }
 {
-    if 12 < w {
-        if w < 32768 {
-            return Range::Big;
-        }
-        if w < 65516 {
-            return Range::Small;
-        }
+    if power_fits(w) {
+        return Range::Fits;
     }
-    Range::Fits
+    if w < 32768 {
+        return Range::Big;
+    }
+    Range::Small
 }
 
+// What is below 0 or in the gap is too small.
 fn interval_range(b: u8) -> Range
     ensures { λ r. ⌜ r ≡ intervalRange b ⌝ }
 {
-    if 127 < b {
-        return Range::Small;
-    }
-    if 59 < b {
-        return Range::Big;
-    }
-    if b == 0 {
+    if interval_fits(b) {
         return Range::Fits;
     }
-    if b < 4 {
-        return Range::Small;
+    if (INTERVAL_MOST < b) & (b < 128) {
+        return Range::Big;
     }
-    Range::Fits
+    Range::Small
 }
 
 fn filter_range(bound: u32, w: u32) -> Range
@@ -110,14 +110,17 @@ pub fn check_range(c: Command, p: &[u8]) -> Range
         Command::ReadPower => Range::Fits,
         Command::SetPower => power_range(half_at(p, 0)),
         Command::ReadStep => Range::Fits,
-        Command::SetStep => signed_range(0, 5, p[0]),
+        Command::SetStep => signed_range(0, STEP_MOST, p[0]),
         Command::ReadMode => Range::Fits,
-        Command::SetMode => signed_range(0, 1, p[0]),
+        Command::SetMode => signed_range(0, MODE_MOST, p[0]),
         Command::ReadName => Range::Fits,
         Command::SetName => name_range(p),
         Command::ReadOnOff => Range::Fits,
-        Command::SetOnOff => signed_range(0, 2, p[0]),
-        Command::SetInput => both_ranges(signed_range(2, 6, p[0]), signed_range(0, 1, p[1])),
+        Command::SetOnOff => signed_range(0, ON_OFF_MOST, p[0]),
+        Command::SetInput => both_ranges(
+            signed_range(2, 6, p[0]),
+            signed_range(0, INPUT_TYPE_MOST, p[1]),
+        ),
         Command::ReadInput => signed_range(2, 6, p[0]),
         Command::SwitchOutput => both_ranges(signed_range(1, 4, p[0]), signed_range(0, 1, p[1])),
         Command::SetInterval => interval_range(p[0]),

@@ -5,10 +5,11 @@ use mathlib.Core.Bool.{true, false, or-true}
 use mathlib.Core.List.{[]}
 use native.Mathlib.Omega.{arith}
 use lib.ListN.{getD, replicate, length-replicate}
+use Rattle.wire.specs.Zeros.{beforeZero}
 use Rattle.wire.specs.Frames.{Heads, waits}
 use Rattle.peak.specs.Pairs.{noPair, pairFits}
 use Rattle.record.specs.Record.{Record}
-use Rattle.record.specs.Limits.{inputRange, nameRange, beforeZero}
+use Rattle.record.specs.Limits.{inputRange, nameRange}
 use Rattle.record.specs.Layout.{PowerHalf, CounterHalf, has, Plan, current, bytesOf}
 use Rattle.record.specs.Form.{wellFormed, InRangeIn, InRange}
 use Rattle.record.specs.Births.{noPairs, factory, poweredOnIn, poweredOn}

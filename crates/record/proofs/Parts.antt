@@ -11,10 +11,10 @@ use lib.Seq.{sets, set-append-left, take-append-seam, drop-append-seam, drop-con
 use lib.Dec.{eqb}
 use borrow.Author.Tests.{eqb-true}
 use Rattle.wire.specs.Numbers.{Bytes, halfAt, wordAt, bytes2, bytes4, bytesAt}
+use Rattle.wire.specs.Zeros.{allZero, zerosBehind, beforeZero}
 use Rattle.wire.proofs.NumberLaws.{half-bytes, word-back, word-bytes, bytes-take}
+use Rattle.wire.proofs.ScanLaws.{behind-is}
 use Rattle.peak.specs.Pairs.{Pair, noPair, pairAt, pairsAt, pairBytes, pairsBytes}
-use Rattle.record.specs.Limits.{beforeZero}
-use Rattle.record.specs.Form.{allZero, zerosBehind}
 
 -- ---- numbers in a list of bytes
 
@@ -102,13 +102,6 @@ unfolding beforeZero
 cut-le [] = omega arith
 cut-le (zero ∷ l) = omega arith
 cut-le (suc b ∷ l) = omega (arith, cut-le l)
-
--- what stands behind the first zero is what stands behind the bytes before it
-pub behind-is : (l : List ℕ) → zerosBehind l ≡ allZero (drop (length (beforeZero l)) l)
-unfolding zerosBehind allZero beforeZero
-behind-is [] = refl
-behind-is (zero ∷ l) = refl
-behind-is (suc b ∷ l) = behind-is l
 
 cut-zeros : (n : ℕ) (l : List ℕ) → beforeZero (l ++ replicate n 0) ≡ beforeZero l
 unfolding beforeZero

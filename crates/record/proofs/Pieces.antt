@@ -11,15 +11,16 @@ use lib.Dec.{ltb, eqb}
 use borrow.Author.Tests.{lt-ltb, le-leb, eq-eqb, ltb-true, leb-true, eqb-true}
 use Rattle.wire.specs.Numbers.{Bytes, halfAt, wordAt, bytes2, bytes4, bytesAt}
 use Rattle.wire.specs.Ranges.{fits}
+use Rattle.wire.specs.Zeros.{allZero, beforeZero}
 use Rattle.wire.specs.Frames.{waits}
 use Rattle.wire.specs.declared.Range.{Range}
 use Rattle.wire.specs.declared.Range.the-variants.{Fits, Big, Small}
 use Rattle.wire.proofs.NumberLaws.{half-back, word-back, length-part, part-all, bytes-part, bytes-take}
 use Rattle.peak.specs.Pairs.{Pair, noPair, pairAt, pairsAt, pairBytes, pairsBytes, pairFits}
 use Rattle.record.specs.Record.{Outputs, Record}
-use Rattle.record.specs.Limits.{powerRange, stepRange, modeRange, onOffRange, inputRange, intervalRange, filterRange, nameRange, beforeZero}
+use Rattle.record.specs.Limits.{powerRange, stepRange, modeRange, onOffRange, inputRange, intervalRange, filterRange, nameRange}
 use Rattle.record.specs.Layout.{Part, SizeBytes, VersionByte, FlagByte, TriesByte, CodeWord, PowerHalf, StepByte, ModeByte, OnOffByte, InputBytes, OutputByte, IntervalByte, FilterWord, NamePart, ModelPart, PendingPart, PairsPart, CounterHalf, has, Plan, width, place, planSize, flagsByte, outputsByte, bitOf, chunk, valueOf}
-use Rattle.record.specs.Form.{Field, field, allZero, several, allFine, flagsFit, testsOf, readingBy, Unless, Silent, InRangeIn}
+use Rattle.record.specs.Form.{Field, field, several, allFine, flagsFit, testsOf, readingBy, Unless, Silent, InRangeIn}
 use Rattle.record.proofs.Choices.{nibble-below, nibble-back, bits-back, even-is}
 use Rattle.record.proofs.Parts.{Words, shift, part-drop, word-lt, words-lt, half-at, word-at, part-back, rest-zero, pad-take, cut-cut, cut-bytes, cut-le, cut-back, cut-behind, pad-cut, pair-part, pair-back, pairs-part, pairs-shift}
 use Rattle.record.specs.Laid.{each, Laid, coreParts, radioParts}
@@ -83,7 +84,7 @@ one b e = ap (λ (t : Bool). t && true) e
 the-one : (b : Bool) → (b && true) ≡ true → b ≡ true
 the-one b e = and-eq-true-iff b true .0 e .0
 
-fits-is : (v : Range) → fits v ≡ true → v ≡ Fits
+pub fits-is : (v : Range) → fits v ≡ true → v ≡ Fits
 fits-is Fits e = refl
 fits-is Big e = absurd (false≢true e)
 fits-is Small e = absurd (false≢true e)

@@ -7,13 +7,14 @@ use lib.ListN.{length, getD, take, drop, replicate}
 use lib.Dec.{ltb, leb, eqb}
 use Rattle.wire.specs.Numbers.{Bytes, halfAt, wordAt, bytesAt}
 use Rattle.wire.specs.Ranges.{fits}
+use Rattle.wire.specs.Zeros.{allZero, zerosBehind, beforeZero}
 use Rattle.wire.specs.Frames.{look, waits}
 use Rattle.wire.specs.Serial.{serial}
 use Rattle.wire.specs.declared.Range.the-variants.{Fits}
 use Rattle.peak.specs.Pairs.{noPair, pairFits, pairAt, key}
 use Rattle.record.specs.Record.{Outputs, Settings, Record}
-use Rattle.record.specs.Limits.{powerRange, stepRange, modeRange, onOffRange, inputRange, intervalRange, filterRange, nameRange, beforeZero}
-use Rattle.record.specs.Layout.{Part, SizeBytes, VersionByte, FlagByte, TriesByte, CodeWord, PowerHalf, StepByte, ModeByte, OnOffByte, InputBytes, OutputByte, IntervalByte, FilterWord, NamePart, ModelPart, PendingPart, PairsPart, CounterHalf, Plan, current, has, place, piece, planSize, bitOf}
+use Rattle.record.specs.Limits.{powerRange, stepRange, modeRange, onOffRange, inputRange, intervalRange, filterRange, nameRange}
+use Rattle.record.specs.Layout.{Part, SizeBytes, VersionByte, FlagByte, TriesByte, CodeWord, PowerHalf, StepByte, ModeByte, OnOffByte, InputBytes, OutputByte, IntervalByte, FilterWord, NamePart, ModelPart, PendingPart, PairsPart, CounterHalf, Plan, nameRoom, modelRoom, current, has, place, piece, planSize, bitOf}
 use Rattle.record.specs.declared.Form.{Form}
 use Rattle.record.specs.declared.Form.the-variants.{Good, Bad}
 
@@ -23,17 +24,6 @@ pub record Field : Type 0 where
 
 abbrev pub field : ℕ → Bool → Field
 field place fine = record { place = place; fine = fine }
-
-unfoldable pub allZero : List ℕ → Bool
-allZero [] = true
-allZero (b ∷ s) = eqb b 0 && allZero s
-
--- "all zero from its first zero"
-unfoldable pub zerosBehind : List ℕ → Bool
-unfolding allZero
-zerosBehind [] = true
-zerosBehind (zero ∷ s) = allZero s
-zerosBehind (suc b ∷ s) = zerosBehind s
 
 -- a part of which the first n bytes are in use: they pass a test, and zeros stand behind them
 abbrev pub partFits : (List ℕ → Bool) → ℕ → List ℕ → Bool
@@ -72,9 +62,9 @@ testsOf p reading at c OutputByte = field at (ltb (getD c 0 0) 16) ∷ []
 testsOf p reading at c IntervalByte = field at (fits (intervalRange (getD c 0 0))) ∷ []
 testsOf p reading at c FilterWord = field at (fits (filterRange (p .filters) (wordAt c 0))) ∷ []
 -- "name length and 15 bytes, each at most 7F, zero behind the name"
-testsOf p reading at c NamePart = field at (leb (getD c 0 0) 15) ∷ field (at + 1) (partFits (λ l. fits (nameRange l)) (getD c 0 0) (bytesAt 15 c 1)) ∷ []
+testsOf p reading at c NamePart = field at (leb (getD c 0 0) nameRoom) ∷ field (at + 1) (partFits (λ l. fits (nameRange l)) (getD c 0 0) (bytesAt nameRoom c 1)) ∷ []
 -- "model 15, all zero from its first zero"
-testsOf p reading at c ModelPart = field at (zerosBehind (bytesAt 15 c 0)) ∷ []
+testsOf p reading at c ModelPart = field at (zerosBehind (bytesAt modelRoom c 0)) ∷ []
 -- "pending bytes are such as the hunt can leave waiting with zeros behind"
 testsOf p reading at c PendingPart = field at (leb (getD c 0 0) (p .room)) ∷ field (at + 1) (partFits (waits (p .heads)) (getD c 0 0) (bytesAt (p .room) c 1)) ∷ []
 -- "the pairs are all zero bytes without a reading, else finite with smallest not above greatest"
@@ -94,42 +84,6 @@ fieldsAt p s qs = testsBy (λ q. testsOf p (readingBy (piece p s FlagByte)) (pla
 
 abbrev pub fieldsIn : Plan → List ℕ → List Field
 fieldsIn p s = fieldsAt p s (p .parts)
-
--- ---- the groups that the check of the current layout goes by; their tests are those of `testsOf`
-
-abbrev pub headFields : List ℕ → List Field
-headFields s = fieldsAt current s (SizeBytes ∷ VersionByte ∷ FlagByte ∷ TriesByte ∷ CodeWord ∷ [])
-
-abbrev pub radioFields : List ℕ → List Field
-radioFields s = fieldsAt current s (PowerHalf ∷ StepByte ∷ ModeByte ∷ OnOffByte ∷ [])
-
-abbrev pub inputFields : List ℕ → List Field
-inputFields s = fieldsAt current s (InputBytes ∷ [])
-
-abbrev pub switchFields : List ℕ → List Field
-switchFields s = fieldsAt current s (OutputByte ∷ IntervalByte ∷ FilterWord ∷ [])
-
-abbrev pub nameFields : List ℕ → List Field
-nameFields s = fieldsAt current s (NamePart ∷ [])
-
-abbrev pub modelFields : List ℕ → List Field
-modelFields s = fieldsAt current s (ModelPart ∷ [])
-
-abbrev pub pendingFields : List ℕ → List Field
-pendingFields s = fieldsAt current s (PendingPart ∷ [])
-
-abbrev pub pairFields : List ℕ → List Field
-pairFields s = fieldsAt current s (PairsPart ∷ [])
-
-abbrev pub groupsOf : List ℕ → List (List Field)
-groupsOf s = headFields s ∷ radioFields s ∷ inputFields s ∷ switchFields s ∷ nameFields s ∷ modelFields s ∷ pendingFields s ∷ pairFields s ∷ []
-
-abbrev pub join : List (List Field) → List Field
-join [] = []
-join (g ∷ gs) = g ++ join gs
-
-abbrev pub fieldsOf : List ℕ → List Field
-fieldsOf s = join (groupsOf s)
 
 abbrev pub allFine : List Field → Bool
 allFine [] = true
@@ -194,9 +148,9 @@ pub record InRangeIn (p : Plan) (r : Record) : Type 0 where
   pub inputs : (i : ℕ) → inputRange (getD (r .settings .inputs) i 0) ≡ Fits
   pub interval : intervalRange (r .settings .interval) ≡ Fits
   pub filter : filterRange (p .filters) (r .settings .filter) ≡ Fits
-  pub name-length : length (r .settings .name) ≤ 15
+  pub name-length : length (r .settings .name) ≤ nameRoom
   pub name : nameRange (r .settings .name) ≡ Fits
-  pub model-length : length (r .model) ≤ 15
+  pub model-length : length (r .model) ≤ modelRoom
   pub model : beforeZero (r .model) ≡ r .model
   pub model-bytes : Bytes (r .model)
   pub pending : waits (p .heads) (r .pending) ≡ true

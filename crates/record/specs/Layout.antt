@@ -6,12 +6,12 @@ use mathlib.Core.List.{List, [], _∷_, _++_}
 use lib.ListN.{length, getD, take}
 use lib.Dec.{eqb, leb}
 use Rattle.wire.specs.Numbers.{halfAt, wordAt, bytes2, bytes4, bytesAt}
+use Rattle.wire.specs.Zeros.{beforeZero}
 use Rattle.wire.specs.Sizes.{waitMost}
 use Rattle.wire.specs.Frames.{Heads}
 use Rattle.wire.specs.Serial.{Fixed, Bad, fronted, closed, serial}
 use Rattle.peak.specs.Pairs.{pairsAt, pairsBytes}
 use Rattle.record.specs.Record.{Flags, Outputs, Record}
-use Rattle.record.specs.Limits.{beforeZero}
 
 -- ---- the parts that a record can have
 
@@ -278,8 +278,8 @@ chunk p r InputBytes = bytesAt 5 (r .settings .inputs) 0
 chunk p r OutputByte = outputsByte (r .outputs) ∷ []
 chunk p r IntervalByte = r .settings .interval ∷ []
 chunk p r FilterWord = bytes4 (r .settings .filter)
-chunk p r NamePart = length (r .settings .name) ∷ bytesAt 15 (r .settings .name) 0
-chunk p r ModelPart = bytesAt 15 (r .model) 0
+chunk p r NamePart = length (r .settings .name) ∷ bytesAt nameRoom (r .settings .name) 0
+chunk p r ModelPart = bytesAt modelRoom (r .model) 0
 chunk p r PendingPart = length (r .pending) ∷ bytesAt (p .room) (r .pending) 0
 chunk p r PairsPart = pairsBytes (p .channels) (r .pairs) 0
 chunk p r CounterHalf = bytes2 (r .counter)
@@ -307,10 +307,10 @@ valueOf p c = record {
     inputs = bytesAt 5 (c InputBytes) 0;
     interval = getD (c IntervalByte) 0 0;
     filter = wordAt (c FilterWord) 0;
-    name = take (getD (c NamePart) 0 0) (bytesAt 15 (c NamePart) 1);
+    name = take (getD (c NamePart) 0 0) (bytesAt nameRoom (c NamePart) 1);
   };
   outputs = record { first = bitOf (getD (c OutputByte) 0 0) 1; second = bitOf (getD (c OutputByte) 0 0) 2; third = bitOf (getD (c OutputByte) 0 0) 4; fourth = bitOf (getD (c OutputByte) 0 0) 8 };
-  model = beforeZero (bytesAt 15 (c ModelPart) 0);
+  model = beforeZero (bytesAt modelRoom (c ModelPart) 0);
   pending = take (getD (c PendingPart) 0 0) (bytesAt (p .room) (c PendingPart) 1);
   pairs = pairsAt (p .channels) (c PairsPart) 0;
   counter = halfAt (c CounterHalf) 0;

@@ -1,5 +1,5 @@
 -- The range of each setting, told once: the record's check and the setting commands both go by it.
-use Prim.Native.Nat.{ℕ, zero, suc}
+use Prim.Native.Nat.{ℕ}
 use mathlib.Core.Bool.{cond, _&&_, _||_}
 use mathlib.Core.List.{List, [], _∷_}
 use lib.Dec.{ltb, leb}
@@ -48,9 +48,3 @@ nameByte b = cond (leb b 0x7F) Fits Big
 unfoldable pub nameRange : List ℕ → Range
 nameRange [] = Fits
 nameRange (b ∷ name) = also (nameByte b) (nameRange name)
-
--- "the bytes before the first 00"
-unfoldable pub beforeZero : List ℕ → List ℕ
-beforeZero [] = []
-beforeZero (zero ∷ s) = []
-beforeZero (suc b ∷ s) = suc b ∷ beforeZero s

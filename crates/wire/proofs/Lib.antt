@@ -8,3 +8,4 @@ pub mod PutLaws
 pub mod ReplyLaws
 pub mod HuntRows
 pub mod HeadLaws
+pub mod ScanLaws

@@ -1,6 +1,7 @@
 pub mod Sizes
 pub mod Numbers
 pub mod Ranges
+pub mod Zeros
 pub mod Frames
 pub mod Serial
 pub mod Replies

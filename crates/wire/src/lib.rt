@@ -1,9 +1,10 @@
-// Bytes on the wire: sizes, heads, numbers, buffers, replies.
+// Bytes on the wire: sizes, heads, numbers, zeros, buffers, replies.
 pub mod buffer;
 pub mod heads;
 pub mod numbers;
 pub mod reply;
 pub mod sizes;
+pub mod zeros;
 
 // What a range says of a value.
 pub enum Range {

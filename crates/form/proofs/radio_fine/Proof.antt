@@ -10,8 +10,8 @@ use Rattle.form.proofs.radio_fine.Tie as tie
 half-at-requires : tie.Need-half-at-requires
 half-at-requires c κs = search needs
 
-power-fine-requires : tie.Need-power-fine-requires
-power-fine-requires c κs = search needs
+power-fits-requires : tie.Need-power-fits-requires
+power-fits-requires c κs = search needs
 
 shared-slice-read-result : tie.Need-shared-slice-read-result
 shared-slice-read-result c = search needs
@@ -23,14 +23,14 @@ shared-slice-read-result-3 : tie.Need-shared-slice-read-result-3
 shared-slice-read-result-3 c = search needs
 
 returns : tie.Need-returns
-returns c = radio-is (c .before .before .before .before .before .before .args .s .now) _ (c .before .before .before .power-fine .ensures ∙ ap (λ (w : ℕ). fits (powerRange w)) (c .before .before .before .before .half-at .ensures))
+returns c = radio-is (c .before .before .before .before .before .before .args .s .now) _ (c .before .before .before .power-fits .ensures ∙ ap (λ (w : ℕ). fits (powerRange w)) (c .before .before .before .before .half-at .ensures))
 
 pub radio-fine-spec : {M : Type 1} → statement M
 radio-fine-spec =
     tie.close
     (tie.spec
     half-at-requires
-    power-fine-requires
+    power-fits-requires
     shared-slice-read-result
     shared-slice-read-result-2
     shared-slice-read-result-3

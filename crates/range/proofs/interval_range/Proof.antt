@@ -1,24 +1,25 @@
-use native.Mathlib.Omega.{arith}
-use mathlib.Core.Path.{refl}
-use borrow.Author.Tests.{lt-ltb, le-ltb}
-use Rattle.record.proofs.Bounds.{interval-range}
+use mathlib.Core.Path.{sym, ap, _∙_}
+use borrow.Author.Needs.{needs}
+use Rattle.record.proofs.Pieces.{fits-is}
+use Rattle.range.proofs.Ranges.{side, interval-missed}
 use Rattle.range.proofs.interval_range.Statement.{statement}
 use Rattle.range.proofs.interval_range.Tie as tie
 
+interval-fits-requires : tie.Need-interval-fits-requires
+interval-fits-requires c κs = search needs
+
 returns : tie.Need-returns
-returns c = let b = c .before .args .b in rw (interval-range b, le-ltb b 128 (omega arith)) refl
+returns c = sym (fits-is _ (sym (c .before .interval-fits .ensures) ∙ c .if1 .taken))
 
 returns-2 : tie.Need-returns-2
-returns-2 c = let b = c .before .before .args .b in rw (interval-range b, lt-ltb b 128 (omega arith), lt-ltb 59 b (omega arith)) refl
+returns-2 c =
+    let b = c .before .before .before .args .b in
+    sym (interval-missed b (sym (c .before .before .interval-fits .ensures) ∙ c .before .if1 .left) ∙ ap side (c .if2 .taken))
 
 returns-3 : tie.Need-returns-3
-returns-3 c = rw (c .if3 .taken) refl
-
-returns-4 : tie.Need-returns-4
-returns-4 c = let b = c .before .before .before .before .args .b in rw (interval-range b, lt-ltb b 128 (omega arith), le-ltb 59 b (omega arith), lt-ltb 0 b (omega arith), lt-ltb b 4 (omega arith)) refl
-
-returns-5 : tie.Need-returns-5
-returns-5 c = let b = c .before .before .before .before .args .b in rw (interval-range b, lt-ltb b 128 (omega arith), le-ltb 59 b (omega arith), lt-ltb 0 b (omega arith), le-ltb b 4 (omega arith)) refl
+returns-3 c =
+    let b = c .before .before .before .args .b in
+    sym (interval-missed b (sym (c .before .before .interval-fits .ensures) ∙ c .before .if1 .left) ∙ ap side (c .if2 .left))
 
 pub interval-range-spec : {M : Type 1} → statement M
-interval-range-spec = tie.close (tie.spec returns returns-2 returns-3 returns-4 returns-5)
+interval-range-spec = tie.close (tie.spec interval-fits-requires returns returns-2 returns-3)

@@ -7,11 +7,9 @@ use native.Mathlib.Numerals.{add-one}
 use native.Mathlib.Omega.{arith}
 use lib.ListN.{length, getD, take, drop}
 use lib.Seq.{drop-cons}
-use borrow.Author.Tests.{eq-eqb, ne-eqb, le-leb, lt-leb}
+use borrow.Author.Tests.{eq-eqb, ne-eqb}
 use Rattle.wire.specs.Numbers.{wordAt}
-use Rattle.wire.specs.Ranges.{fits}
-use Rattle.record.specs.Limits.{nameRange, beforeZero}
-use Rattle.record.specs.Form.{allZero}
+use Rattle.wire.specs.Zeros.{allZero, zerosBehind, beforeZero}
 
 abbrev pub part : List ℕ → ℕ → ℕ → List ℕ
 part s from to = take (to - from) (drop from s)
@@ -19,7 +17,7 @@ part s from to = take (to - from) (drop from s)
 pub part-none : (s : List ℕ) (from to : ℕ) → to ≤ from → part s from to ≡ []
 part-none s from to h = let z : to - from ≡ 0 = omega arith in rw z refl
 
-part-cons : (s : List ℕ) (at to : ℕ) → at < to → to ≤ length s → part s at to ≡ getD s at 0 ∷ part s (at + 1) to
+pub part-cons : (s : List ℕ) (at to : ℕ) → at < to → to ≤ length s → part s at to ≡ getD s at 0 ∷ part s (at + 1) to
 part-cons s at to h l =
     let n : to - at ≡ suc (to - (at + 1)) = omega arith in
     rw (n, drop-cons s at 0 (omega arith), add-one at) refl
@@ -37,14 +35,6 @@ module _ (s : List ℕ) (at to : ℕ) (h : at < to) (l : to ≤ length s) where
   pub zero-hit : (getD s at 0 ≡ 0 → ⊥) → allZero (part s at to) ≡ false
   unfolding allZero
   zero-hit e = rw (part-cons s at to h l, ne-eqb (getD s at 0) 0 e) refl
-
-  pub name-skip : getD s at 0 ≤ 0x7F → nameRange (part s at to) ≡ nameRange (part s (at + 1) to)
-  unfolding nameRange
-  name-skip e = rw (part-cons s at to h l, le-leb (getD s at 0) 0x7F e) refl
-
-  pub name-hit : 0x7F < getD s at 0 → fits (nameRange (part s at to)) ≡ false
-  unfolding nameRange
-  name-hit e = rw (part-cons s at to h l, lt-leb (getD s at 0) 0x7F e) refl
 
   pub first-skip : (getD s at 0 ≡ 0 → ⊥) → length (beforeZero (part s at to)) ≡ suc (length (beforeZero (part s (at + 1) to)))
   first-skip e = rw (part-cons s at to h l) (zero-not (getD s at 0) (part s (at + 1) to) e)
@@ -71,10 +61,13 @@ module _ (s : List ℕ) (at to : ℕ) (h : to ≤ at) where
   unfolding allZero
   zero-end = rw (part-none s at to h) refl
 
-  pub name-end : fits (nameRange (part s at to)) ≡ true
-  unfolding nameRange
-  name-end = rw (part-none s at to h) refl
-
   pub first-end : length (beforeZero (part s at to)) ≡ 0
   unfolding beforeZero
   first-end = rw (part-none s at to h) refl
+
+-- what stands behind the first zero is what stands behind the bytes before it
+pub behind-is : (l : List ℕ) → zerosBehind l ≡ allZero (drop (length (beforeZero l)) l)
+unfolding zerosBehind allZero beforeZero
+behind-is [] = refl
+behind-is (zero ∷ l) = refl
+behind-is (suc b ∷ l) = behind-is l

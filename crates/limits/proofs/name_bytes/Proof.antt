@@ -1,14 +1,15 @@
 use native.Mathlib.Omega.{arith}
-use Prim.Native.Nat.{_+_, _-_, _≤_}
-use mathlib.Core.Path.{_≡_, refl}
-use lib.ListN.{length}
-use Rattle.form.proofs.Scan.{part, first-skip, first-hit, first-end}
-use Rattle.record.specs.Limits.{beforeZero}
-use Rattle.form.proofs.first_zero.Statement.{statement}
-use Rattle.form.proofs.first_zero.Tie as tie
+use Prim.Native.Nat.{_-_, _≤_}
+use mathlib.Core.Path.{_≡_, refl, sym, ap, _∙_}
+use Rattle.limits.proofs.Tests.{name-skip, name-hit, name-end}
+use Rattle.record.specs.Limits.{nameRange}
+use Rattle.wire.specs.Ranges.{fits}
+use Rattle.wire.proofs.ScanLaws.{part}
+use Rattle.limits.proofs.name_bytes.Statement.{statement}
+use Rattle.limits.proofs.name_bytes.Tie as tie
 
 abbrev Inv-loop : tie.InvT-loop
-Inv-loop s from to at₀ at = (at ≤ to) × (from + length (beforeZero (part s from to)) ≡ at + length (beforeZero (part s at to)))
+Inv-loop s from to at₀ at = (at ≤ to) × (nameRange (part s from to) ≡ nameRange (part s at to))
 
 abbrev μ-loop : tie.MeasureT-loop
 μ-loop s from to at₀ at = to - at
@@ -23,7 +24,7 @@ returns : tie.Need-returns Inv-loop μ-loop
 returns c =
     let l = c .before .before .before .loop in
     let a = c .before .before .before .before .args in
-    omega (arith, l .inv .1, first-hit (a .s .now) (l .at) (a .to) (omega arith) (omega arith) (c .if1 .taken))
+    sym (ap fits (l .inv .1) ∙ name-hit (a .s .now) (l .at) (a .to) (omega arith) (omega arith) (c .if1 .taken))
 
 add-at : tie.Need-add-at Inv-loop μ-loop
 add-at c = omega arith
@@ -35,16 +36,16 @@ loop-again : tie.Need-loop-again Inv-loop μ-loop
 loop-again c =
     let l = c .before .before .before .loop in
     let a = c .before .before .before .before .args in
-    omega (arith, l .inv .1, first-skip (a .s .now) (l .at) (a .to) (omega arith) (omega arith) (c .if1 .left))
+    (omega arith, l .inv .1 ∙ name-skip (a .s .now) (l .at) (a .to) (omega arith) (omega arith) (omega arith))
 
 returns-2 : tie.Need-returns-2 Inv-loop μ-loop
 returns-2 c =
     let l = c .before .loop in
     let a = c .before .before .args in
-    omega (arith, l .inv .1, first-end (a .s .now) (l .at) (a .to) (omega arith))
+    sym (ap fits (l .inv .1) ∙ name-end (a .s .now) (l .at) (a .to) (omega arith))
 
-pub first-zero-spec : {M : Type 1} → statement M
-first-zero-spec =
+pub name-bytes-spec : {M : Type 1} → statement M
+name-bytes-spec =
     tie.close
     (tie.spec
     Inv-loop

@@ -1,0 +1,53 @@
+// The range of each setting in code.
+ghost use mathlib.Core.Path.{_≡_};
+ghost use Prim.Native.Nat.{_-_, _≤_};
+ghost use lib.ListN.{length, take, drop};
+ghost use Rattle.wire.specs.Ranges.{fits};
+ghost use Rattle.record.specs.Limits.{powerRange, intervalRange, nameRange};
+
+// -20, as its 16 bits.
+const POWER_LEAST: u16 = 65516;
+
+const POWER_MOST: u16 = 12;
+
+pub const STEP_MOST: u8 = 5;
+
+pub const MODE_MOST: u8 = 1;
+
+pub const ON_OFF_MOST: u8 = 2;
+
+pub const INPUT_TYPE_MOST: u8 = 1;
+
+// But for 0.
+const INTERVAL_LEAST: u8 = 4;
+
+pub const INTERVAL_MOST: u8 = 59;
+
+pub const NAME_BYTE_MOST: u8 = 0x7F;
+
+pub fn power_fits(w: u16) -> bool
+    ensures { λ r. ⌜ r ≡ fits (powerRange w) ⌝ }
+{
+    (w <= POWER_MOST) | (POWER_LEAST <= w)
+}
+
+pub fn interval_fits(b: u8) -> bool
+    ensures { λ r. ⌜ r ≡ fits (intervalRange b) ⌝ }
+{
+    (b == 0) | ((INTERVAL_LEAST <= b) & (b <= INTERVAL_MOST))
+}
+
+// Whether the bytes from a place up to another may stand in a name.
+pub fn name_bytes(s: &[u8], from: usize, to: usize) -> bool
+    requires { ⌜ (from ≤ to) × (to ≤ length (now s)) ⌝ }
+    ensures { λ r. ⌜ r ≡ fits (nameRange (take (to - from) (drop from (now (s .entry))))) ⌝ }
+{
+    let mut at = from;
+    while at < to {
+        if s[at] > NAME_BYTE_MOST {
+            return false;
+        }
+        at += 1;
+    }
+    true
+}
