@@ -1,4 +1,4 @@
--- Heads that the byte behind the AA makes known are steady; the board's are 9n and An, and its look is the six lines.
+-- Heads that the byte behind the AA makes known are steady; what the hunt asks of heads; the board's are 9n and An, and its look is the six lines.
 use Prim.Native.Nat.{ℕ, _+_, _-_, _%_, _≤_, _<_}
 use mathlib.Core.Path.{_≡_, refl, sym, _∙_}
 use mathlib.Core.List.{List, _++_}
