@@ -2,8 +2,7 @@
 ghost use mathlib.Core.Path.{_≡_};
 ghost use lib.ListN.{length};
 ghost use Rattle.wire.specs.declared.Range.the-variants.{Fits};
-ghost use Rattle.record.specs.Layout.{recordSize};
-ghost use Rattle.record.specs.Place.{Turns};
+ghost use Rattle.record.specs.Place.{Sound, Turns};
 ghost use Rattle.command.specs.declared.Counted.the-variants.{Right};
 ghost use Rattle.command.specs.Tables.{countedOf, rangeOf};
 ghost use Rattle.command.specs.Effects.{effectOf};
@@ -31,7 +30,7 @@ use settings::set_step;
 use settings::switch_output;
 
 pub fn carry_out(rec: &mut [u8], c: Command, p: &[u8])
-    requires { ⌜ length (now rec) ≡ recordSize ⌝ }
+    requires { ⌜ Sound (now rec) ⌝ }
     requires { ⌜ countedOf c (length (now p)) ≡ Right ⌝ }
     requires { ⌜ rangeOf c (now p) ≡ Fits ⌝ }
     ensures { λ _. ⌜ Turns (now (rec .entry)) (now (rec .exit)) (λ r. effectOf c r (now (p .entry))) ⌝ }
@@ -68,7 +67,7 @@ pub fn carry_out(rec: &mut [u8], c: Command, p: &[u8])
 
 // Only a wrong code leaves a trace: a try more.
 pub fn refuse_on(rec: &mut [u8], why: Refusal)
-    requires { ⌜ length (now rec) ≡ recordSize ⌝ }
+    requires { ⌜ Sound (now rec) ⌝ }
     requires { ⌜ Countable why (now rec) ⌝ }
     ensures { λ _. ⌜ Turns (now (rec .entry)) (now (rec .exit)) (λ r. leftBy why r) ⌝ }
 {

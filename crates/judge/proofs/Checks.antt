@@ -14,11 +14,11 @@ use Rattle.wire.specs.declared.Range.the-variants.{Fits, Big, Small}
 use Rattle.record.specs.Record.{Record}
 use Rattle.record.specs.Layout.{FlagByte, Plan, place, atFlags, atTries, atCode, flagsByte, bytesIn, bytesOf, bitOf}
 use Rattle.record.specs.Laid.{Laid}
-use Rattle.record.specs.Place.{Shows, ShowsAt}
+use Rattle.record.specs.Place.{Sound, Shows, SoundAt, ShowsAt}
 use Rattle.record.proofs.Choices.{bits-back}
 use Rattle.record.proofs.Lens.{get-tries, get-code}
 use Rattle.record.proofs.Stores.{get-flagsIn}
-use Rattle.record.proofs.PlaceLaws.{here-shows}
+use Rattle.record.proofs.PlaceLaws.{sound-at, here-shows}
 use Rattle.command.specs.declared.Command.{Command}
 use Rattle.command.specs.declared.Command.the-variants.{Open, Close, ReadPower, SetPower, ReadStep, SetStep, ReadMode, SetMode, ReadName, SetName, ReadOnOff, SetOnOff, SetInput, ReadInput, SwitchOutput, SetInterval, ReadInterval, Unlock, ReadLock, ReadModel, SetModel, StopSending, StartSending, ReadFilter, SetFilter, ReadPair}
 use Rattle.command.specs.declared.Listed.{Listed}
@@ -83,14 +83,17 @@ module _ (s : List ℕ) (p : Plan) (laid : Laid p) (at-is : place p FlagByte ≡
   unlocked-bit = rw flags-at (bits-back (r .flags .opened) (r .flags .unlocked) (r .flags .sending) (r .flags .reading) .1)
 
 pub opened-is : (s : List ℕ) → ShowsAt FlagByte atFlags s (eqb (getD s atFlags 0 % 2) 1) (λ r. r .flags .opened)
-opened-is s p laid has at-is r i e = let z : getD s atFlags 0 % 2 ≡ getD s atFlags 0 / 1 % 2 = omega arith in rw z (opened-bit s p laid at-is r e)
+opened-is s p w r i e = let z : getD s atFlags 0 % 2 ≡ getD s atFlags 0 / 1 % 2 = omega arith in rw z (opened-bit s p (w .laid) (w .stands) r e)
 
 pub unlocked-is : (s : List ℕ) → ShowsAt FlagByte atFlags s (eqb (getD s atFlags 0 / 2 % 2) 1) (λ r. r .flags .unlocked)
-unlocked-is s p laid has at-is r i e = unlocked-bit s p laid at-is r e
+unlocked-is s p w r i e = unlocked-bit s p (w .laid) (w .stands) r e
 
 -- and in the current one
+pub flag-sound : (s : List ℕ) → Sound s → SoundAt FlagByte atFlags s
+flag-sound s = sound-at FlagByte atFlags refl refl s
+
 pub flag-here : (s : List ℕ) (v : Bool) (f : Record → Bool) → ShowsAt FlagByte atFlags s v f → Shows s v f
-flag-here s v f = here-shows FlagByte atFlags s v f refl refl
+flag-here s v f = here-shows FlagByte atFlags refl refl s v f
 
 tries-at : (s : List ℕ) (r : Record) → s ≡ bytesOf r → getD s atTries 0 ≡ r .tries
 tries-at s r e = ap (λ (l : List ℕ). getD l atTries 0) e ∙ get-tries r

@@ -1,9 +1,9 @@
 // The checks of a frame, in the order of the refusals: each answers an enum, and the first that does not pass decides.
 ghost use mathlib.Core.Path.{_≡_};
-ghost use Prim.Native.Nat.{_+_, _≤_, _<_};
+ghost use Prim.Native.Nat.{_≤_};
 ghost use lib.ListN.{length};
-ghost use Rattle.record.specs.Layout.{FlagByte, recordSize, atFlags, atCode};
-ghost use Rattle.record.specs.Place.{Shows, ShowsAt};
+ghost use Rattle.record.specs.Layout.{FlagByte, atFlags};
+ghost use Rattle.record.specs.Place.{Sound, Shows, SoundAt, ShowsAt};
 ghost use Rattle.command.specs.declared.Need.the-variants.{Code};
 ghost use Rattle.command.specs.Judge.{accessOf, verdictOf};
 ghost use Rattle.judge.specs.Checks.{asks, numberRefusal, accessRefusal, rangeRefusal};
@@ -24,14 +24,14 @@ use wire::Range;
 use wire::numbers::word_at;
 
 fn is_open(rec: &[u8]) -> bool
-    requires { ⌜ atFlags < length (now rec) ⌝ }
+    requires { ⌜ SoundAt FlagByte atFlags (now rec) ⌝ }
     ensures { λ r. ⌜ ShowsAt FlagByte atFlags (now (rec .entry)) r (λ b. b .flags .opened) ⌝ }
 {
     rec[AT_FLAGS] % 2 == 1
 }
 
 fn is_unlocked(rec: &[u8]) -> bool
-    requires { ⌜ atFlags < length (now rec) ⌝ }
+    requires { ⌜ SoundAt FlagByte atFlags (now rec) ⌝ }
     ensures { λ r. ⌜ ShowsAt FlagByte atFlags (now (rec .entry)) r (λ b. b .flags .unlocked) ⌝ }
 {
     rec[AT_FLAGS] / 2 % 2 == 1
@@ -39,7 +39,8 @@ fn is_unlocked(rec: &[u8]) -> bool
 
 // The code is compared only with configuration mode closed and a try left.
 fn code_access(rec: &[u8], p: &[u8]) -> Access
-    requires { ⌜ (atCode + 4 ≤ length (now rec)) × (4 ≤ length (now p)) ⌝ }
+    requires { ⌜ Sound (now rec) ⌝ }
+    requires { ⌜ 4 ≤ length (now p) ⌝ }
     ensures { λ r. ⌜ Shows (now (rec .entry)) r (λ b. accessOf Code b (now (p .entry))) ⌝ }
 {
     if is_open(rec) {
@@ -56,7 +57,8 @@ fn code_access(rec: &[u8], p: &[u8]) -> Access
 
 // 62: what the command needs of the board.
 fn check_access(need: Need, rec: &[u8], p: &[u8]) -> Access
-    requires { ⌜ (atCode + 4 ≤ length (now rec)) × (asks need ≤ length (now p)) ⌝ }
+    requires { ⌜ Sound (now rec) ⌝ }
+    requires { ⌜ asks need ≤ length (now p) ⌝ }
     ensures { λ r. ⌜ Shows (now (rec .entry)) r (λ b. accessOf need b (now (p .entry))) ⌝ }
 {
     match need {
@@ -116,7 +118,7 @@ fn range_refusal(range: Range) -> Refusal
 }
 
 pub fn judge(rec: &[u8], head: u8, number: u8, p: &[u8]) -> Verdict
-    requires { ⌜ length (now rec) ≡ recordSize ⌝ }
+    requires { ⌜ Sound (now rec) ⌝ }
     ensures { λ r. ⌜ Shows (now (rec .entry)) r (λ b. verdictOf b head number (now (p .entry))) ⌝ }
 {
     let listed = check_number(head, number);

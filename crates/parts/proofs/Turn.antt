@@ -23,15 +23,14 @@ module _ (s : List ℕ) where
         turns-at NamePart atName s (λ at d. sets (set d at (length p)) (at + 1) (bytesAt nameRoom p 0)) (λ r. withSettings r (withName (r .settings) p)) (λ q laid r i e. set-nameIn q laid r e p)
 
     pub turn-pending : (at room n : ℕ) → n ≡ room → TurnsPending at room s (sets (set s at (length p)) (at + 1) (bytesAt n p 0)) (λ r. withPending r p)
-    turn-pending at room n same q laid at-is room-is r i e =
-        rw (e, same, ← room-is, ← at-is) (set-pendingIn q laid r p)
+    turn-pending at room n same q w r i e = rw (e, same, ← (w .1), ← (w .0 .stands)) (set-pendingIn q (w .0 .laid) r p)
 
     -- n as the search for the first zero finds it
     pub turn-model : (at m n : ℕ) → m ≡ modelRoom → n ≡ 0 + length (beforeZero (take (length p - 0) (drop 0 p))) → TurnsAt ModelPart at s (sets s at (bytesAt m (take (n - 0) p) 0)) (λ r. withModel r (beforeZero p))
-    turn-model at m n same q plan laid has at-is r i e =
+    turn-model at m n same q plan w r i e =
         let all : take (length p - 0) (drop 0 p) ≡ p = take-all (length p - 0) p (omega arith) in
         let cut : n - 0 ≡ length (beforeZero p) = omega (arith, q, ap (λ (l : List ℕ). length (beforeZero l)) all) in
-        rw (e, same, cut, cut-take p, ← at-is) (set-modelIn plan laid r (beforeZero p))
+        rw (e, same, cut, cut-take p, ← (w .stands)) (set-modelIn plan (w .laid) r (beforeZero p))
 
 -- a part and then zeros up to the end of its room
 pub put-part : (d : List ℕ) (at end : ℕ) (p : List ℕ) → at + length p ≤ end → end ≤ length d

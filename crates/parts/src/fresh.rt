@@ -3,7 +3,7 @@ ghost use mathlib.Core.Path.{_≡_};
 ghost use lib.ListN.{length};
 ghost use Rattle.record.specs.Layout.{recordSize, bytesOf};
 ghost use Rattle.record.specs.Births.{factory, poweredOn};
-ghost use Rattle.record.specs.Place.{Turns};
+ghost use Rattle.record.specs.Place.{Sound, Turns};
 use record::places::AT_FLAGS;
 use record::places::AT_NAME;
 use record::places::AT_NAME_BYTES;
@@ -55,7 +55,7 @@ pub fn write_factory(rec: &mut [u8])
 
 // What power-on makes of a record.
 pub fn switch_on(rec: &mut [u8])
-    requires { ⌜ length (now rec) ≡ recordSize ⌝ }
+    requires { ⌜ Sound (now rec) ⌝ }
     ensures { λ _. ⌜ Turns (now (rec .entry)) (now (rec .exit)) (λ r. poweredOn r) ⌝ }
 {
     rec[AT_FLAGS] &= !CLEARED;

@@ -8,8 +8,8 @@ ghost use lib.Seq.{sets};
 ghost use Rattle.wire.specs.Numbers.{bytesAt};
 ghost use Rattle.wire.specs.Zeros.{beforeZero};
 ghost use Rattle.record.specs.Record.{withName, withSettings, withModel, withPending};
-ghost use Rattle.record.specs.Layout.{NamePart, ModelPart, nameRoom, modelRoom, atName, atNameBytes};
-ghost use Rattle.record.specs.Place.{TurnsAt, TurnsPending};
+ghost use Rattle.record.specs.Layout.{NamePart, ModelPart, nameRoom, modelRoom, atName};
+ghost use Rattle.record.specs.Place.{SoundAt, SoundPending, TurnsAt, TurnsPending};
 use record::places::AT_MODEL;
 use record::places::AT_NAME;
 use record::places::AT_NAME_BYTES;
@@ -28,7 +28,7 @@ fn put_part(rec: &mut [u8], at: usize, end: usize, p: &[u8])
 }
 
 pub fn set_name(rec: &mut [u8], p: &[u8])
-    requires { ⌜ atNameBytes + nameRoom ≤ length (now rec) ⌝ }
+    requires { ⌜ SoundAt NamePart atName (now rec) ⌝ }
     requires { ⌜ length (now p) ≤ nameRoom ⌝ }
     ensures { λ _. ⌜ TurnsAt NamePart atName (now (rec .entry)) (now (rec .exit)) (λ r. withSettings r (withName (r .settings) (now (p .entry)))) ⌝ }
 {
@@ -38,7 +38,7 @@ pub fn set_name(rec: &mut [u8], p: &[u8])
 
 // At the place that the layout gives the model.
 pub fn set_model(rec: &mut [u8], at: usize, p: &[u8])
-    requires { ⌜ at + modelRoom ≤ length (now rec) ⌝ }
+    requires { ⌜ SoundAt ModelPart at (now rec) ⌝ }
     requires { ⌜ length (now p) ≤ modelRoom ⌝ }
     ensures { λ _. ⌜ TurnsAt ModelPart at (now (rec .entry)) (now (rec .exit)) (λ r. withModel r (beforeZero (now (p .entry)))) ⌝ }
 {
@@ -48,7 +48,7 @@ pub fn set_model(rec: &mut [u8], at: usize, p: &[u8])
 
 // At the place and in the room that the layout gives them.
 pub fn set_pending(rec: &mut [u8], at: usize, room: usize, p: &[u8])
-    requires { ⌜ (at + 1 + room ≤ length (now rec)) × (room ≤ 255) ⌝ }
+    requires { ⌜ SoundPending at room (now rec) ⌝ }
     requires { ⌜ length (now p) ≤ room ⌝ }
     ensures { λ _. ⌜ TurnsPending at room (now (rec .entry)) (now (rec .exit)) (λ r. withPending r (now (p .entry))) ⌝ }
 {

@@ -95,6 +95,14 @@ same-sym a b e = by (same b a) refl
 module _ (w : Part → ℕ) where
   -- ---- what stands at the place of a part
 
+  pub place-in : (q : Part) (ps : List Part) → has ps q ≡ true → placeOf w ps q + w q ≤ sizeOf w ps
+  place-in q [] e = absurd (false≢true e)
+  place-in q (x ∷ ps) e = by (same q x) refl e (λ h. place-in q ps h)
+    where
+      by : (t : Bool) → same q x ≡ t → (t || has ps q) ≡ true → (has ps q ≡ true → placeOf w ps q + w q ≤ sizeOf w ps) → cond t 0 (w x + placeOf w ps q) + w q ≤ w x + sizeOf w ps
+      by true s e ih = omega (arith, ap w (same-is q x s))
+      by false s e ih = omega (arith, ih e)
+
   module _ (c : Part → List ℕ) (long : (q : Part) → length (c q) ≡ w q) where
     pub lay-long : (ps : List Part) → length (lay c ps) ≡ sizeOf w ps
     lay-long [] = refl

@@ -1,12 +1,11 @@
 use native.Mathlib.Omega.{arith}
-use Rattle.record.proofs.PlaceLaws.{holds-long}
 use Rattle.carry.proofs.Acted.{may-do, acts-do, may-count, acts-refuse}
 use borrow.Author.Needs.{needs}
 use Rattle.carry.proofs.act.Statement.{statement}
 use Rattle.carry.proofs.act.Tie as tie
 
 judge-requires : tie.Need-judge-requires
-judge-requires c κs = holds-long _ _ (c .before .before .before .pre)
+judge-requires c κs = c .before .before .before .pre
 
 enum-known-verdict : tie.Need-enum-known-verdict
 enum-known-verdict c = search needs
@@ -14,7 +13,7 @@ enum-known-verdict c = search needs
 carry-out-requires : tie.Need-carry-out-requires
 carry-out-requires c κs =
     let z = c .before .before .before .before .before .before .before .before in
-    (holds-long _ _ (z .pre), may-do (z .args .rec .now) (z .args .head) (z .args .number) (z .args .p .now) (z .pre) _ (c .before .before .before .before .judge .ensures) _ (c .before .before .verdict .given .1))
+    (z .pre, may-do (z .args .rec .now) (z .args .head) (z .args .number) (z .args .p .now) (z .pre) _ (c .before .before .before .before .judge .ensures) _ (c .before .before .verdict .given .1))
 
 enum-known-verdict-2 : tie.Need-enum-known-verdict-2
 enum-known-verdict-2 c = search needs
@@ -22,7 +21,7 @@ enum-known-verdict-2 c = search needs
 refuse-on-requires : tie.Need-refuse-on-requires
 refuse-on-requires c κs =
     let z = c .before .before .before .before .before .before .before .before in
-    (holds-long _ _ (z .pre), may-count (z .args .rec .now) (z .args .head) (z .args .number) (z .args .p .now) (z .pre) _ (c .before .before .before .before .judge .ensures) _ (c .before .before .verdict2 .given .1))
+    (z .pre, may-count (z .args .rec .now) (z .args .head) (z .args .number) (z .args .p .now) (z .pre) _ (c .before .before .before .before .judge .ensures) _ (c .before .before .verdict2 .given .1))
 
 same-length : tie.Need-same-length
 same-length c = search needs

@@ -1,11 +1,12 @@
 use native.Mathlib.Omega.{arith}
 use mathlib.Core.Path.{_≡_, refl}
+use mathlib.Core.Bool.{true}
 use mathlib.Core.List.{List}
 use Prim.Native.Nat.{ℕ}
 use native.Mathlib.Nat.{le-antisymm}
-use Rattle.record.specs.Place.{Turns}
-use Rattle.record.specs.Layout.{FlagByte, PowerHalf, StepByte, ModeByte, OnOffByte, InputBytes, OutputByte, IntervalByte, FilterWord, NamePart, ModelPart, atFlags, atPower, atStep, atMode, atOnOff, atInputs, atOutputs, atInterval, atFilter, atName, atModel}
-use Rattle.record.proofs.PlaceLaws.{here}
+use Rattle.record.specs.Place.{Turns, SoundAt}
+use Rattle.record.specs.Layout.{Part, FlagByte, PowerHalf, StepByte, ModeByte, OnOffByte, InputBytes, OutputByte, IntervalByte, FilterWord, NamePart, ModelPart, has, current, place, atFlags, atPower, atStep, atMode, atOnOff, atInputs, atOutputs, atInterval, atFilter, atName, atModel}
+use Rattle.record.proofs.PlaceLaws.{sound-at, here}
 use Rattle.command.specs.declared.Command.{Command}
 use Rattle.command.specs.declared.Command.the-variants.{Open, Close, ReadPower, SetPower, ReadStep, SetStep, ReadMode, SetMode, ReadName, SetName, ReadOnOff, SetOnOff, SetInput, ReadInput, SwitchOutput, SetInterval, ReadInterval, Unlock, ReadLock, ReadModel, SetModel, StopSending, StartSending, ReadFilter, SetFilter, ReadPair}
 use Rattle.command.specs.Tables.{spanOf}
@@ -23,17 +24,20 @@ turns : {t : List ℕ} (c : tie.After-shared-slice-known) (k : Command) → let 
     → Turns (a .rec .now) t (λ r. effectOf (a .c) r (a .p .now))
 turns {t} c k told g = let a = c .before .before .args in turn-as (a .c) k told (a .rec .now) t (a .p .now) g
 
+sound : (c : tie.After-shared-slice-known) (q : Part) → has (current .parts) q ≡ true → SoundAt q (place current q) (c .before .before .args .rec .now)
+sound c q there = let z = c .before .before in sound-at q (place current q) there refl (z .args .rec .now) (z .pre .0)
+
 enum-told : tie.Need-enum-told
 enum-told c = search needs
 
 open-mode-requires : tie.Need-open-mode-requires
-open-mode-requires c κs = search needs
+open-mode-requires c κs = sound (c .before .before .before) FlagByte refl
 
 enum-told-2 : tie.Need-enum-told-2
 enum-told-2 c = search needs
 
 close-mode-requires : tie.Need-close-mode-requires
-close-mode-requires c κs = search needs
+close-mode-requires c κs = sound (c .before .before .before) FlagByte refl
 
 enum-told-3 : tie.Need-enum-told-3
 enum-told-3 c = search needs
@@ -44,9 +48,8 @@ enum-told-4 c = search needs
 set-power-requires : tie.Need-set-power-requires
 unfolding spanOf
 set-power-requires c κs =
-    let z = c .before .before .before .before .before in
     let g = passed (c .before .before .before) SetPower (c .before .enum-told4 .given .1) in
-    (omega (arith, z .pre .0), le-antisymm (g .most) (g .least))
+    (sound (c .before .before .before) PowerHalf refl, le-antisymm (g .most) (g .least))
 
 enum-told-5 : tie.Need-enum-told-5
 enum-told-5 c = search needs
@@ -59,7 +62,7 @@ unfolding spanOf
 shared-slice-read-set-step c = omega (arith, passed (c .before .before .before .before) SetStep (c .before .before .enum-told6 .given .1) .least)
 
 set-step-requires : tie.Need-set-step-requires
-set-step-requires c κs = search needs
+set-step-requires c κs = sound (c .before .before .before .before) StepByte refl
 
 enum-told-7 : tie.Need-enum-told-7
 enum-told-7 c = search needs
@@ -72,7 +75,7 @@ unfolding spanOf
 shared-slice-read-set-mode c = omega (arith, passed (c .before .before .before .before) SetMode (c .before .before .enum-told8 .given .1) .least)
 
 set-mode-requires : tie.Need-set-mode-requires
-set-mode-requires c κs = search needs
+set-mode-requires c κs = sound (c .before .before .before .before) ModeByte refl
 
 enum-told-9 : tie.Need-enum-told-9
 enum-told-9 c = search needs
@@ -83,9 +86,8 @@ enum-told-10 c = search needs
 set-name-requires : tie.Need-set-name-requires
 unfolding spanOf
 set-name-requires c κs =
-    let z = c .before .before .before .before .before in
     let g = passed (c .before .before .before) SetName (c .before .enum-told10 .given .1) in
-    (omega (arith, z .pre .0), g .most)
+    (sound (c .before .before .before) NamePart refl, g .most)
 
 enum-told-11 : tie.Need-enum-told-11
 enum-told-11 c = search needs
@@ -98,7 +100,7 @@ unfolding spanOf
 shared-slice-read-set-on-off c = omega (arith, passed (c .before .before .before .before) SetOnOff (c .before .before .enum-told12 .given .1) .least)
 
 set-on-off-requires : tie.Need-set-on-off-requires
-set-on-off-requires c κs = search needs
+set-on-off-requires c κs = sound (c .before .before .before .before) OnOffByte refl
 
 enum-told-13 : tie.Need-enum-told-13
 enum-told-13 c = search needs
@@ -115,7 +117,7 @@ set-input-requires : tie.Need-set-input-requires
 set-input-requires c κs =
     let z = c .before .before .before .before .before .before .before in
     let g = passed (c .before .before .before .before .before) SetInput (c .before .before .before .enum-told13 .given .1) in
-    (omega (arith, z .pre .0), set-input-channel (z .args .p .now) (g .range))
+    (sound (c .before .before .before .before .before) InputBytes refl, set-input-channel (z .args .p .now) (g .range))
 
 enum-told-14 : tie.Need-enum-told-14
 enum-told-14 c = search needs
@@ -135,7 +137,7 @@ switch-output-requires : tie.Need-switch-output-requires
 switch-output-requires c κs =
     let z = c .before .before .before .before .before .before .before in
     let g = passed (c .before .before .before .before .before) SwitchOutput (c .before .before .before .enum-told15 .given .1) in
-    (omega (arith, z .pre .0), output-number (z .args .p .now) (g .range))
+    (sound (c .before .before .before .before .before) OutputByte refl, output-number (z .args .p .now) (g .range))
 
 enum-told-16 : tie.Need-enum-told-16
 enum-told-16 c = search needs
@@ -145,7 +147,7 @@ unfolding spanOf
 shared-slice-read-set-interval c = omega (arith, passed (c .before .before .before .before) SetInterval (c .before .before .enum-told16 .given .1) .least)
 
 set-interval-requires : tie.Need-set-interval-requires
-set-interval-requires c κs = search needs
+set-interval-requires c κs = sound (c .before .before .before .before) IntervalByte refl
 
 enum-told-17 : tie.Need-enum-told-17
 enum-told-17 c = search needs
@@ -154,7 +156,7 @@ enum-told-18 : tie.Need-enum-told-18
 enum-told-18 c = search needs
 
 unlock-requires : tie.Need-unlock-requires
-unlock-requires c κs = search needs
+unlock-requires c κs = sound (c .before .before .before) FlagByte refl
 
 enum-told-19 : tie.Need-enum-told-19
 enum-told-19 c = search needs
@@ -168,21 +170,20 @@ enum-told-21 c = search needs
 set-model-requires : tie.Need-set-model-requires
 unfolding spanOf
 set-model-requires c κs =
-    let z = c .before .before .before .before .before in
     let g = passed (c .before .before .before) SetModel (c .before .enum-told21 .given .1) in
-    (omega (arith, z .pre .0), g .most)
+    (sound (c .before .before .before) ModelPart refl, g .most)
 
 enum-told-22 : tie.Need-enum-told-22
 enum-told-22 c = search needs
 
 stop-sending-requires : tie.Need-stop-sending-requires
-stop-sending-requires c κs = search needs
+stop-sending-requires c κs = sound (c .before .before .before) FlagByte refl
 
 enum-told-23 : tie.Need-enum-told-23
 enum-told-23 c = search needs
 
 start-sending-requires : tie.Need-start-sending-requires
-start-sending-requires c κs = search needs
+start-sending-requires c κs = sound (c .before .before .before) FlagByte refl
 
 enum-told-24 : tie.Need-enum-told-24
 enum-told-24 c = search needs
@@ -193,9 +194,8 @@ enum-told-25 c = search needs
 set-filter-requires : tie.Need-set-filter-requires
 unfolding spanOf
 set-filter-requires c κs =
-    let z = c .before .before .before .before .before in
     let g = passed (c .before .before .before) SetFilter (c .before .enum-told25 .given .1) in
-    (omega (arith, z .pre .0), le-antisymm (g .most) (g .least))
+    (sound (c .before .before .before) FilterWord refl, le-antisymm (g .most) (g .least))
 
 enum-told-26 : tie.Need-enum-told-26
 enum-told-26 c = search needs
@@ -205,14 +205,14 @@ same-length c = search needs
 
 returns : tie.Need-returns
 unfolding effectOf
-returns c = turns (c .before .before .before .before .before .before) Open (c .before .before .before .before .enum-told .given .1) (here FlagByte atFlags _ _ _ refl refl (c .before .before .open-mode .ensures))
+returns c = turns (c .before .before .before .before .before .before) Open (c .before .before .before .before .enum-told .given .1) (here FlagByte atFlags refl refl _ _ _ (c .before .before .open-mode .ensures))
 
 same-length-2 : tie.Need-same-length-2
 same-length-2 c = search needs
 
 returns-2 : tie.Need-returns-2
 unfolding effectOf
-returns-2 c = turns (c .before .before .before .before .before .before) Close (c .before .before .before .before .enum-told2 .given .1) (here FlagByte atFlags _ _ _ refl refl (c .before .before .close-mode .ensures))
+returns-2 c = turns (c .before .before .before .before .before .before) Close (c .before .before .before .before .enum-told2 .given .1) (here FlagByte atFlags refl refl _ _ _ (c .before .before .close-mode .ensures))
 
 returns-3 : tie.Need-returns-3
 unfolding effectOf
@@ -223,7 +223,7 @@ same-length-3 c = search needs
 
 returns-4 : tie.Need-returns-4
 unfolding effectOf
-returns-4 c = turns (c .before .before .before .before .before .before) SetPower (c .before .before .before .before .enum-told4 .given .1) (here PowerHalf atPower _ _ _ refl refl (c .before .before .set-power .ensures))
+returns-4 c = turns (c .before .before .before .before .before .before) SetPower (c .before .before .before .before .enum-told4 .given .1) (here PowerHalf atPower refl refl _ _ _ (c .before .before .set-power .ensures))
 
 returns-5 : tie.Need-returns-5
 unfolding effectOf
@@ -234,7 +234,7 @@ same-length-4 c = search needs
 
 returns-6 : tie.Need-returns-6
 unfolding effectOf
-returns-6 c = turns (c .before .before .before .before .before .before .before) SetStep (c .before .before .before .before .before .enum-told6 .given .1) (here StepByte atStep _ _ _ refl refl (c .before .before .set-step .ensures))
+returns-6 c = turns (c .before .before .before .before .before .before .before) SetStep (c .before .before .before .before .before .enum-told6 .given .1) (here StepByte atStep refl refl _ _ _ (c .before .before .set-step .ensures))
 
 returns-7 : tie.Need-returns-7
 unfolding effectOf
@@ -245,7 +245,7 @@ same-length-5 c = search needs
 
 returns-8 : tie.Need-returns-8
 unfolding effectOf
-returns-8 c = turns (c .before .before .before .before .before .before .before) SetMode (c .before .before .before .before .before .enum-told8 .given .1) (here ModeByte atMode _ _ _ refl refl (c .before .before .set-mode .ensures))
+returns-8 c = turns (c .before .before .before .before .before .before .before) SetMode (c .before .before .before .before .before .enum-told8 .given .1) (here ModeByte atMode refl refl _ _ _ (c .before .before .set-mode .ensures))
 
 returns-9 : tie.Need-returns-9
 unfolding effectOf
@@ -256,7 +256,7 @@ same-length-6 c = search needs
 
 returns-10 : tie.Need-returns-10
 unfolding effectOf
-returns-10 c = turns (c .before .before .before .before .before .before) SetName (c .before .before .before .before .enum-told10 .given .1) (here NamePart atName _ _ _ refl refl (c .before .before .set-name .ensures))
+returns-10 c = turns (c .before .before .before .before .before .before) SetName (c .before .before .before .before .enum-told10 .given .1) (here NamePart atName refl refl _ _ _ (c .before .before .set-name .ensures))
 
 returns-11 : tie.Need-returns-11
 unfolding effectOf
@@ -267,14 +267,14 @@ same-length-7 c = search needs
 
 returns-12 : tie.Need-returns-12
 unfolding effectOf
-returns-12 c = turns (c .before .before .before .before .before .before .before) SetOnOff (c .before .before .before .before .before .enum-told12 .given .1) (here OnOffByte atOnOff _ _ _ refl refl (c .before .before .set-on-off .ensures))
+returns-12 c = turns (c .before .before .before .before .before .before .before) SetOnOff (c .before .before .before .before .before .enum-told12 .given .1) (here OnOffByte atOnOff refl refl _ _ _ (c .before .before .set-on-off .ensures))
 
 same-length-8 : tie.Need-same-length-8
 same-length-8 c = search needs
 
 returns-13 : tie.Need-returns-13
 unfolding effectOf
-returns-13 c = turns (c .before .before .before .before .before .before .before .before) SetInput (c .before .before .before .before .before .before .enum-told13 .given .1) (here InputBytes atInputs _ _ _ refl refl (c .before .before .set-input .ensures))
+returns-13 c = turns (c .before .before .before .before .before .before .before .before) SetInput (c .before .before .before .before .before .before .enum-told13 .given .1) (here InputBytes atInputs refl refl _ _ _ (c .before .before .set-input .ensures))
 
 returns-14 : tie.Need-returns-14
 unfolding effectOf
@@ -285,14 +285,14 @@ same-length-9 c = search needs
 
 returns-15 : tie.Need-returns-15
 unfolding effectOf
-returns-15 c = turns (c .before .before .before .before .before .before .before .before) SwitchOutput (c .before .before .before .before .before .before .enum-told15 .given .1) (here OutputByte atOutputs _ _ _ refl refl (c .before .before .switch-output .ensures))
+returns-15 c = turns (c .before .before .before .before .before .before .before .before) SwitchOutput (c .before .before .before .before .before .before .enum-told15 .given .1) (here OutputByte atOutputs refl refl _ _ _ (c .before .before .switch-output .ensures))
 
 same-length-10 : tie.Need-same-length-10
 same-length-10 c = search needs
 
 returns-16 : tie.Need-returns-16
 unfolding effectOf
-returns-16 c = turns (c .before .before .before .before .before .before .before) SetInterval (c .before .before .before .before .before .enum-told16 .given .1) (here IntervalByte atInterval _ _ _ refl refl (c .before .before .set-interval .ensures))
+returns-16 c = turns (c .before .before .before .before .before .before .before) SetInterval (c .before .before .before .before .before .enum-told16 .given .1) (here IntervalByte atInterval refl refl _ _ _ (c .before .before .set-interval .ensures))
 
 returns-17 : tie.Need-returns-17
 unfolding effectOf
@@ -303,7 +303,7 @@ same-length-11 c = search needs
 
 returns-18 : tie.Need-returns-18
 unfolding effectOf
-returns-18 c = turns (c .before .before .before .before .before .before) Unlock (c .before .before .before .before .enum-told18 .given .1) (here FlagByte atFlags _ _ _ refl refl (c .before .before .unlock .ensures))
+returns-18 c = turns (c .before .before .before .before .before .before) Unlock (c .before .before .before .before .enum-told18 .given .1) (here FlagByte atFlags refl refl _ _ _ (c .before .before .unlock .ensures))
 
 returns-19 : tie.Need-returns-19
 unfolding effectOf
@@ -318,21 +318,21 @@ same-length-12 c = search needs
 
 returns-21 : tie.Need-returns-21
 unfolding effectOf
-returns-21 c = turns (c .before .before .before .before .before .before) SetModel (c .before .before .before .before .enum-told21 .given .1) (here ModelPart atModel _ _ _ refl refl (c .before .before .set-model .ensures))
+returns-21 c = turns (c .before .before .before .before .before .before) SetModel (c .before .before .before .before .enum-told21 .given .1) (here ModelPart atModel refl refl _ _ _ (c .before .before .set-model .ensures))
 
 same-length-13 : tie.Need-same-length-13
 same-length-13 c = search needs
 
 returns-22 : tie.Need-returns-22
 unfolding effectOf
-returns-22 c = turns (c .before .before .before .before .before .before) StopSending (c .before .before .before .before .enum-told22 .given .1) (here FlagByte atFlags _ _ _ refl refl (c .before .before .stop-sending .ensures))
+returns-22 c = turns (c .before .before .before .before .before .before) StopSending (c .before .before .before .before .enum-told22 .given .1) (here FlagByte atFlags refl refl _ _ _ (c .before .before .stop-sending .ensures))
 
 same-length-14 : tie.Need-same-length-14
 same-length-14 c = search needs
 
 returns-23 : tie.Need-returns-23
 unfolding effectOf
-returns-23 c = turns (c .before .before .before .before .before .before) StartSending (c .before .before .before .before .enum-told23 .given .1) (here FlagByte atFlags _ _ _ refl refl (c .before .before .start-sending .ensures))
+returns-23 c = turns (c .before .before .before .before .before .before) StartSending (c .before .before .before .before .enum-told23 .given .1) (here FlagByte atFlags refl refl _ _ _ (c .before .before .start-sending .ensures))
 
 returns-24 : tie.Need-returns-24
 unfolding effectOf
@@ -343,7 +343,7 @@ same-length-15 c = search needs
 
 returns-25 : tie.Need-returns-25
 unfolding effectOf
-returns-25 c = turns (c .before .before .before .before .before .before) SetFilter (c .before .before .before .before .enum-told25 .given .1) (here FilterWord atFilter _ _ _ refl refl (c .before .before .set-filter .ensures))
+returns-25 c = turns (c .before .before .before .before .before .before) SetFilter (c .before .before .before .before .enum-told25 .given .1) (here FilterWord atFilter refl refl _ _ _ (c .before .before .set-filter .ensures))
 
 returns-26 : tie.Need-returns-26
 unfolding effectOf

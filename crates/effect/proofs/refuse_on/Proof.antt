@@ -1,10 +1,9 @@
-use native.Mathlib.Omega.{arith}
 use mathlib.Core.Path.{_≡_, refl}
 use mathlib.Core.List.{List}
 use Prim.Native.Nat.{ℕ}
 use Rattle.record.specs.Place.{Turns}
 use Rattle.record.specs.Layout.{TriesByte, atTries}
-use Rattle.record.proofs.PlaceLaws.{here}
+use Rattle.record.proofs.PlaceLaws.{sound-at, here}
 use Rattle.command.specs.declared.Refusal.{Refusal}
 use Rattle.command.specs.declared.Refusal.the-variants.{Unknown, Unbuilt, Parameters, NoAccess, BadCode, TooBig, TooSmall}
 use Rattle.command.specs.Step.{leftBy}
@@ -32,7 +31,7 @@ enum-told-5 : tie.Need-enum-told-5
 enum-told-5 c = search needs
 
 count-try-requires : tie.Need-count-try-requires
-count-try-requires c κs = let z = c .before .before .before .before in (omega (arith, z .pre .0), z .pre .1 (c .before .enum-told5 .given .1))
+count-try-requires c κs = let z = c .before .before .before .before in (sound-at TriesByte atTries refl refl _ (z .pre .0), z .pre .1 (c .before .enum-told5 .given .1))
 
 enum-told-6 : tie.Need-enum-told-6
 enum-told-6 c = search needs
@@ -61,7 +60,7 @@ same-length c = search needs
 
 returns-5 : tie.Need-returns-5
 unfolding leftBy
-returns-5 c = turns (c .before .before .before .before .before .before) BadCode (c .before .before .before .before .enum-told5 .given .1) (here TriesByte atTries _ _ _ refl refl (c .before .before .count-try .ensures))
+returns-5 c = turns (c .before .before .before .before .before .before) BadCode (c .before .before .before .before .enum-told5 .given .1) (here TriesByte atTries refl refl _ _ _ (c .before .before .count-try .ensures))
 
 returns-6 : tie.Need-returns-6
 unfolding leftBy

@@ -1,16 +1,19 @@
 use Rattle.flags.proofs.Turn.{turn-tries}
+use native.Mathlib.Omega.{arith}
+use Rattle.record.specs.Layout.{TriesByte, atTries}
+use Rattle.record.proofs.PlaceLaws.{reaches}
 use borrow.Author.Needs.{needs}
 use Rattle.flags.proofs.count_try.Statement.{statement}
 use Rattle.flags.proofs.count_try.Tie as tie
 
 slice-read-rec : tie.Need-slice-read-rec
-slice-read-rec c = search needs
+slice-read-rec c = omega (arith, reaches TriesByte atTries (c .before .args .rec .now) (c .before .pre .0))
 
 add-rec : tie.Need-add-rec
 add-rec c = search needs
 
 slice-write-rec : tie.Need-slice-write-rec
-slice-write-rec c = search needs
+slice-write-rec c = omega (arith, reaches TriesByte atTries (c .before .args .rec .now) (c .before .pre .0))
 
 same-length : tie.Need-same-length
 same-length c = search needs

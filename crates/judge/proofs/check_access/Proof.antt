@@ -1,6 +1,6 @@
 use mathlib.Core.Path.{refl, sym, _∙_}
 use Rattle.command.specs.Judge.{accessOf}
-use Rattle.judge.proofs.Checks.{flag-here}
+use Rattle.judge.proofs.Checks.{flag-sound, flag-here}
 use borrow.Author.Needs.{needs}
 use Rattle.judge.proofs.check_access.Statement.{statement}
 use Rattle.judge.proofs.check_access.Tie as tie
@@ -12,26 +12,26 @@ enum-told-2 : tie.Need-enum-told-2
 enum-told-2 c = search needs
 
 is-open-requires : tie.Need-is-open-requires
-is-open-requires c κs = search needs
+is-open-requires c κs = flag-sound _ (c .before .before .before .before .pre .0)
 
 enum-told-3 : tie.Need-enum-told-3
 enum-told-3 c = search needs
 
 is-open-requires-2 : tie.Need-is-open-requires-2
-is-open-requires-2 c κs = search needs
+is-open-requires-2 c κs = flag-sound _ (c .before .before .before .before .pre .0)
 
 enum-told-4 : tie.Need-enum-told-4
 enum-told-4 c = search needs
 
 is-open-requires-3 : tie.Need-is-open-requires-3
-is-open-requires-3 c κs = search needs
+is-open-requires-3 c κs = flag-sound _ (c .before .before .before .before .pre .0)
 
 returns : tie.Need-returns
 unfolding accessOf
 returns c r i e = rw (c .before .before .enum-told4 .given .1, sym (flag-here _ _ _ (c .before .is-open3 .ensures) r i e) ∙ c .if3 .taken) refl
 
 is-unlocked-requires : tie.Need-is-unlocked-requires
-is-unlocked-requires c κs = search needs
+is-unlocked-requires c κs = flag-sound _ (c .before .before .before .before .before .before .pre .0)
 
 enum-told-5 : tie.Need-enum-told-5
 enum-told-5 c = search needs

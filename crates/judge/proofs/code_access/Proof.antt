@@ -1,12 +1,18 @@
 use native.Mathlib.Omega.{arith}
-use mathlib.Core.Path.{sym, _∙_}
-use Rattle.judge.proofs.Checks.{code-open, code-used, code-right, code-wrong}
+use mathlib.Core.Path.{_≡_, sym, _∙_}
+use lib.ListN.{length}
+use Rattle.record.specs.Layout.{recordSize}
+use Rattle.record.proofs.PlaceLaws.{holds-long}
+use Rattle.judge.proofs.Checks.{flag-sound, code-open, code-used, code-right, code-wrong}
 use borrow.Author.Needs.{needs}
 use Rattle.judge.proofs.code_access.Statement.{statement}
 use Rattle.judge.proofs.code_access.Tie as tie
 
+whole : (c : tie.Start) → length (c .args .rec .now) ≡ recordSize
+whole c = holds-long _ (c .args .rec .now) (c .pre .0)
+
 is-open-requires : tie.Need-is-open-requires
-is-open-requires c κs = search needs
+is-open-requires c κs = flag-sound _ (c .before .before .pre .0)
 
 returns : tie.Need-returns
 returns c =
@@ -15,7 +21,7 @@ returns c =
     code-open (a .rec .now) (a .p .now) (h .is-open .result) (h .is-open .ensures) (c .if1 .taken)
 
 shared-slice-read-if2 : tie.Need-shared-slice-read-if2
-shared-slice-read-if2 c = search needs
+shared-slice-read-if2 c = omega (arith, whole (c .before .before .before .before .before))
 
 returns-2 : tie.Need-returns-2
 returns-2 c =
@@ -27,7 +33,7 @@ word-at-requires : tie.Need-word-at-requires
 word-at-requires c κs = search needs
 
 word-at-requires-2 : tie.Need-word-at-requires-2
-word-at-requires-2 c κs = search needs
+word-at-requires-2 c κs = search (needs, whole (c .before .before .before .before .before .before .before))
 
 returns-3 : tie.Need-returns-3
 returns-3 c =

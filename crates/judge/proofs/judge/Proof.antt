@@ -67,7 +67,7 @@ check-access-requires : tie.Need-check-access-requires
 check-access-requires c κs =
     let d = c .before .before .before .before .before in
     let s = d .before .before .before .before .before in
-    (omega (arith, s .pre), rw (c .need-of .ensures) (asked (d .listed .given .0 .0) (length (s .args .p .now)) (counted-is (c .before))))
+    (s .pre, rw (c .need-of .ensures) (asked (d .listed .given .0 .0) (length (s .args .p .now)) (counted-is (c .before))))
 
 enum-told-3 : tie.Need-enum-told-3
 enum-told-3 c = search needs

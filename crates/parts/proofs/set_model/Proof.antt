@@ -1,16 +1,21 @@
-use Prim.Native.Nat.{_+_, _-_}
-use Rattle.record.specs.Layout.{modelRoom}
+use Prim.Native.Nat.{_+_, _-_, _≤_}
+use lib.ListN.{length}
+use Rattle.record.specs.Layout.{ModelPart, modelRoom}
+use Rattle.record.proofs.PlaceLaws.{reaches}
 use Rattle.parts.proofs.Turn.{turn-model}
 use native.Mathlib.Omega.{arith}
 use borrow.Author.Needs.{needs}
 use Rattle.parts.proofs.set_model.Statement.{statement}
 use Rattle.parts.proofs.set_model.Tie as tie
 
+whole : (c : tie.Start) → c .args .at + modelRoom ≤ length (c .args .rec .now)
+whole c = reaches ModelPart (c .args .at) (c .args .rec .now) (c .pre .0)
+
 first-zero-requires : tie.Need-first-zero-requires
 first-zero-requires c κs = search needs
 
 add-put-part : tie.Need-add-put-part
-add-put-part c = search needs
+add-put-part c = omega (arith, whole (c .before .before .before .before))
 
 sub-put-part : tie.Need-sub-put-part
 sub-put-part c = search needs
@@ -22,7 +27,7 @@ part-put-part-end : tie.Need-part-put-part-end
 part-put-part-end c = search needs
 
 put-part-requires : tie.Need-put-part-requires
-put-part-requires c κs = search needs
+put-part-requires c κs = search (needs, whole (c .before .before .before .before .before))
 
 same-length : tie.Need-same-length
 same-length c = search needs

@@ -1,18 +1,24 @@
 use Rattle.parts.proofs.Turn.{turn-name}
 use native.Mathlib.Omega.{arith}
-use lib.ListN.{length-set}
+use Prim.Native.Nat.{_+_, _≤_}
+use lib.ListN.{length, length-set}
+use Rattle.record.specs.Layout.{NamePart, nameRoom, atName, atNameBytes}
+use Rattle.record.proofs.PlaceLaws.{reaches}
 use borrow.Author.Needs.{needs}
 use Rattle.parts.proofs.set_name.Statement.{statement}
 use Rattle.parts.proofs.set_name.Tie as tie
+
+whole : (c : tie.Start) → atNameBytes + nameRoom ≤ length (c .args .rec .now)
+whole c = omega (arith, reaches NamePart atName (c .args .rec .now) (c .pre .0))
 
 cast-rec : tie.Need-cast-rec
 cast-rec c = search needs
 
 slice-write-rec : tie.Need-slice-write-rec
-slice-write-rec c = search needs
+slice-write-rec c = omega (arith, whole (c .before .before))
 
 put-part-requires : tie.Need-put-part-requires
-put-part-requires c κs = simp length-set (omega arith)
+put-part-requires c κs = simp length-set (omega (arith, whole (c .before .before .before)))
 
 same-length : tie.Need-same-length
 same-length c = simp length-set at (c .before .before .put-part .kept .0)

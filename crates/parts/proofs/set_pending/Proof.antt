@@ -1,28 +1,31 @@
-use Prim.Native.Nat.{_+_, _-_}
+use Prim.Native.Nat.{suc, _+_, _-_, _≤_, _<_}
+use Rattle.record.proofs.PlaceLaws.{reaches-pending}
 use Rattle.parts.proofs.Turn.{turn-pending}
 use native.Mathlib.Omega.{arith}
-use lib.ListN.{length-set}
-use borrow.Author.Needs.{needs}
+use lib.ListN.{length, length-set}
 use Rattle.parts.proofs.set_pending.Statement.{statement}
 use Rattle.parts.proofs.set_pending.Tie as tie
 
+whole : (c : tie.Start) → (c .args .at + suc (c .args .room) ≤ length (c .args .rec .now)) × (c .args .room < 256)
+whole c = reaches-pending (c .args .at) (c .args .room) (c .args .rec .now) (c .pre .0)
+
 cast-rec : tie.Need-cast-rec
-cast-rec c = search needs
+cast-rec c = omega (arith, whole (c .before .before))
 
 slice-write-rec : tie.Need-slice-write-rec
-slice-write-rec c = search needs
+slice-write-rec c = omega (arith, whole (c .before .before))
 
 add-put-part : tie.Need-add-put-part
-add-put-part c = search needs
+add-put-part c = omega (arith, whole (c .before .before .before))
 
 add-put-part-2 : tie.Need-add-put-part-2
-add-put-part-2 c = search needs
+add-put-part-2 c = omega (arith, whole (c .before .before .before))
 
 add-put-part-3 : tie.Need-add-put-part-3
-add-put-part-3 c = search needs
+add-put-part-3 c = omega (arith, whole (c .before .before .before))
 
 put-part-requires : tie.Need-put-part-requires
-put-part-requires c κs = simp length-set (omega arith)
+put-part-requires c κs = simp length-set (omega (arith, whole (c .before .before .before)))
 
 same-length : tie.Need-same-length
 same-length c = simp length-set at (c .before .before .put-part .kept .0)

@@ -1,42 +1,48 @@
 use Rattle.settings.proofs.Turn.{turn-filter}
 use native.Mathlib.Omega.{arith}
-use lib.ListN.{length-set}
+use Prim.Native.Nat.{_+_, _≤_}
+use lib.ListN.{length, length-set}
+use Rattle.record.specs.Layout.{FilterWord}
+use Rattle.record.proofs.PlaceLaws.{reaches}
 use borrow.Author.Needs.{needs}
 use Rattle.settings.proofs.set_filter.Statement.{statement}
 use Rattle.settings.proofs.set_filter.Tie as tie
+
+whole : (c : tie.Start) → c .args .at + 4 ≤ length (c .args .rec .now)
+whole c = reaches FilterWord (c .args .at) (c .args .rec .now) (c .pre .0)
 
 shared-slice-read-rec : tie.Need-shared-slice-read-rec
 shared-slice-read-rec c = search needs
 
 slice-write-rec : tie.Need-slice-write-rec
-slice-write-rec c = search needs
+slice-write-rec c = omega (arith, whole (c .before))
 
 shared-slice-read-rec-2 : tie.Need-shared-slice-read-rec-2
 shared-slice-read-rec-2 c = search needs
 
 add-rec : tie.Need-add-rec
-add-rec c = search needs
+add-rec c = omega (arith, whole (c .before .before))
 
 slice-write-rec-2 : tie.Need-slice-write-rec-2
-slice-write-rec-2 c = simp length-set (omega arith)
+slice-write-rec-2 c = simp length-set (omega (arith, whole (c .before .before)))
 
 shared-slice-read-rec-3 : tie.Need-shared-slice-read-rec-3
 shared-slice-read-rec-3 c = search needs
 
 add-rec-2 : tie.Need-add-rec-2
-add-rec-2 c = search needs
+add-rec-2 c = omega (arith, whole (c .before .before .before))
 
 slice-write-rec-3 : tie.Need-slice-write-rec-3
-slice-write-rec-3 c = simp length-set (omega arith)
+slice-write-rec-3 c = simp length-set (omega (arith, whole (c .before .before .before)))
 
 shared-slice-read-rec-4 : tie.Need-shared-slice-read-rec-4
 shared-slice-read-rec-4 c = search needs
 
 add-rec-3 : tie.Need-add-rec-3
-add-rec-3 c = search needs
+add-rec-3 c = omega (arith, whole (c .before .before .before .before))
 
 slice-write-rec-4 : tie.Need-slice-write-rec-4
-slice-write-rec-4 c = simp length-set (omega arith)
+slice-write-rec-4 c = simp length-set (omega (arith, whole (c .before .before .before .before)))
 
 same-length : tie.Need-same-length
 same-length c = search needs

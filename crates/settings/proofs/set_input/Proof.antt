@@ -1,4 +1,7 @@
 use Rattle.settings.proofs.Turn.{turn-input}
+use native.Mathlib.Omega.{arith}
+use Rattle.record.specs.Layout.{InputBytes, atInputs}
+use Rattle.record.proofs.PlaceLaws.{reaches}
 use borrow.Author.Needs.{needs}
 use Rattle.settings.proofs.set_input.Statement.{statement}
 use Rattle.settings.proofs.set_input.Tie as tie
@@ -7,7 +10,7 @@ add-rec : tie.Need-add-rec
 add-rec c = search needs
 
 slice-write-rec : tie.Need-slice-write-rec
-slice-write-rec c = search needs
+slice-write-rec c = omega (arith, reaches InputBytes atInputs (c .args .rec .now) (c .pre .0))
 
 same-length : tie.Need-same-length
 same-length c = search needs

@@ -1,10 +1,13 @@
 use Rattle.settings.proofs.Turn.{turn-on-off}
+use native.Mathlib.Omega.{arith}
+use Rattle.record.specs.Layout.{OnOffByte, atOnOff}
+use Rattle.record.proofs.PlaceLaws.{reaches}
 use borrow.Author.Needs.{needs}
 use Rattle.settings.proofs.set_on_off.Statement.{statement}
 use Rattle.settings.proofs.set_on_off.Tie as tie
 
 slice-write-rec : tie.Need-slice-write-rec
-slice-write-rec c = search needs
+slice-write-rec c = omega (arith, reaches OnOffByte atOnOff (c .args .rec .now) (c .pre))
 
 same-length : tie.Need-same-length
 same-length c = search needs

@@ -1,4 +1,8 @@
 use Rattle.settings.proofs.Turn.{turn-power}
+use native.Mathlib.Omega.{arith}
+use Rattle.record.specs.Layout.{PowerHalf, atPower}
+use Rattle.record.proofs.PlaceLaws.{reaches}
+use lib.ListN.{length-set}
 use borrow.Author.Needs.{needs}
 use Rattle.settings.proofs.set_power.Statement.{statement}
 use Rattle.settings.proofs.set_power.Tie as tie
@@ -7,7 +11,7 @@ shared-slice-read-rec : tie.Need-shared-slice-read-rec
 shared-slice-read-rec c = search needs
 
 slice-write-rec : tie.Need-slice-write-rec
-slice-write-rec c = search needs
+slice-write-rec c = omega (arith, reaches PowerHalf atPower (c .before .args .rec .now) (c .before .pre .0))
 
 shared-slice-read-rec-2 : tie.Need-shared-slice-read-rec-2
 shared-slice-read-rec-2 c = search needs
@@ -16,7 +20,7 @@ add-rec : tie.Need-add-rec
 add-rec c = search needs
 
 slice-write-rec-2 : tie.Need-slice-write-rec-2
-slice-write-rec-2 c = search needs
+slice-write-rec-2 c = let a = c .before .before in simp length-set (omega (arith, reaches PowerHalf atPower (a .args .rec .now) (a .pre .0)))
 
 same-length : tie.Need-same-length
 same-length c = search needs

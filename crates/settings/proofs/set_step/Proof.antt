@@ -1,10 +1,13 @@
 use Rattle.settings.proofs.Turn.{turn-step}
+use native.Mathlib.Omega.{arith}
+use Rattle.record.specs.Layout.{StepByte, atStep}
+use Rattle.record.proofs.PlaceLaws.{reaches}
 use borrow.Author.Needs.{needs}
 use Rattle.settings.proofs.set_step.Statement.{statement}
 use Rattle.settings.proofs.set_step.Tie as tie
 
 slice-write-rec : tie.Need-slice-write-rec
-slice-write-rec c = search needs
+slice-write-rec c = omega (arith, reaches StepByte atStep (c .args .rec .now) (c .pre))
 
 same-length : tie.Need-same-length
 same-length c = search needs

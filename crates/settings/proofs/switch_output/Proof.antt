@@ -1,25 +1,33 @@
 use Rattle.settings.proofs.Turn.{turn-output-on, turn-output-off}
+use native.Mathlib.Omega.{arith}
+use Rattle.record.specs.Layout.{OutputByte, atOutputs}
+use Rattle.record.proofs.PlaceLaws.{reaches}
+use Prim.Native.Nat.{_<_}
+use lib.ListN.{length}
 use borrow.Author.Needs.{needs}
 use Rattle.settings.proofs.switch_output.Statement.{statement}
 use Rattle.settings.proofs.switch_output.Tie as tie
+
+whole : (c : tie.After-mask-of) → atOutputs < length (c .before .before .args .rec .now)
+whole c = let z = c .before .before in omega (arith, reaches OutputByte atOutputs (z .args .rec .now) (z .pre .0))
 
 mask-of-requires : tie.Need-mask-of-requires
 mask-of-requires c κs = search needs
 
 slice-read-rec : tie.Need-slice-read-rec
-slice-read-rec c = search needs
+slice-read-rec c = omega (arith, whole (c .before .before))
 
 slice-write-rec : tie.Need-slice-write-rec
-slice-write-rec c = search needs
+slice-write-rec c = omega (arith, whole (c .before .before))
 
 sub-rec : tie.Need-sub-rec
 sub-rec c = search needs
 
 slice-read-rec-2 : tie.Need-slice-read-rec-2
-slice-read-rec-2 c = search needs
+slice-read-rec-2 c = omega (arith, whole (c .before .before))
 
 slice-write-rec-2 : tie.Need-slice-write-rec-2
-slice-write-rec-2 c = search needs
+slice-write-rec-2 c = omega (arith, whole (c .before .before))
 
 same-length : tie.Need-same-length
 same-length c = search needs

@@ -1,5 +1,5 @@
 use native.Mathlib.Omega.{arith}
-use Rattle.board.proofs.Ends.{power-on-refuses, power-on-ends, good-long}
+use Rattle.board.proofs.Ends.{power-on-refuses, power-on-ends, good-sound}
 use mathlib.Core.Path.{sym, _∙_}
 use borrow.Author.Needs.{needs}
 use Rattle.board.proofs.power_on.board_power_on.Statement.{statement}
@@ -24,7 +24,7 @@ returns : tie.Need-returns
 returns c = power-on-refuses (c .before .before .before .before .before .before .args .rec .now) _ (sym (c .before .before .before .form-of .ensures) ∙ c .before .enum-told2 .given .1) (c .ended .ensures)
 
 switch-on-requires : tie.Need-switch-on-requires
-switch-on-requires c κs = good-long (c .before .before .before .before .before .before .args .rec .now) (sym (c .before .before .before .form-of .ensures) ∙ c .before .enum-told .given .1)
+switch-on-requires c κs = good-sound (c .before .before .before .before .before .before .args .rec .now) (λ i. omega (arith, c .before .before .before .before .before .slice-known .given i)) (sym (c .before .before .before .form-of .ensures) ∙ c .before .enum-told .given .1)
 
 ended-requires-2 : tie.Need-ended-requires-2
 ended-requires-2 c κs = search needs
