@@ -15,14 +15,14 @@ use Rattle.wire.proofs.PutLaws.{put-put, put-zero}
 use Rattle.wire.proofs.SerialLaws.{Huntable, pending-short}
 use Rattle.wire.proofs.AlongLaws.{stopped}
 use Rattle.record.specs.Record.{Record, withPending}
-use Rattle.record.specs.Layout.{recordSize, pendingRoom, atPending, atWaiting, recordOf}
-use Rattle.record.specs.Place.{Sound, Turns}
-use Rattle.record.proofs.PlaceLaws.{holds-long}
+use Rattle.record.specs.Layout.{pendingRoom, atPending, atWaiting, recordOf}
+use Rattle.record.specs.Place.{Sound, Turns, SoundPending}
+use Rattle.record.proofs.PlaceLaws.{holds-long, sound-pending}
 use Rattle.record.proofs.Lens.{get-pending-length}
 use Rattle.command.specs.Step.{answer}
 use Rattle.hunt.specs.Progress.{Hunts, Rests, Joins}
 use Rattle.hunt.specs.declared.Progress.{Progress}
-use Rattle.hunt.proofs.GoingLaws.{going-kept}
+use Rattle.hunt.proofs.GoingLaws.{going-sound}
 use Rattle.hunt.proofs.ServeLaws.{ServesFor, halted-short, head-short, serves-head, rest-starts, rest-room, serves-rest}
 
 abbrev reached : List ℕ → ℕ
@@ -61,8 +61,8 @@ rest-long l at = rw (part-rest l at, length-drop at l) (omega arith)
 -- ---- the whole of a stream
 
 module _ (heads : Heads) (s l before : List ℕ) (start : ℕ) (p : Progress) (mid out : List ℕ) (h : Hunts heads (recordOf s) l before (length l) start p mid out) where
-  pub rests-kept : length mid ≡ recordSize
-  rests-kept = going-kept heads l before start (recordOf s) (p .at) (p .skipped) (p .wrote) mid out (h .going)
+  pub rests-kept : Sound mid
+  rests-kept = going-sound heads l before start (recordOf s) (p .at) (p .skipped) (p .wrote) mid out (h .going)
 
   pub rests-short : Huntable heads → length (take (length l - p .at) (drop (p .at) l)) ≤ pendingRoom
   rests-short ok = rw (part-rest l (p .at)) (halted-short heads ok (h .going .board) (drop (p .at) l) (stopped Record Reply heads answer (h .going .board) l (p .at) (length l) (omega arith) (h .stops)))
@@ -71,8 +71,8 @@ module _ (heads : Heads) (s l before : List ℕ) (start : ℕ) (p : Progress) (m
   rests kept t = record { mid = mid; hunts = h; turns = subst (λ (x : List ℕ). Turns mid kept (λ z. withPending z x)) (part-rest l (p .at)) t }
 
 -- what the store of the pending bytes asks for
-pub roomed : (n m : ℕ) → (n ≡ recordSize) × (m ≤ pendingRoom) → ((atPending + 1 + pendingRoom ≤ n) × (pendingRoom ≤ 255)) × (m ≤ pendingRoom)
-roomed n m h = ((omega (arith, h .0), omega arith), h .1)
+pub roomed : (s : List ℕ) (m : ℕ) → Sound s × (m ≤ pendingRoom) → SoundPending atPending pendingRoom s × (m ≤ pendingRoom)
+roomed s m h = (sound-pending s (h .0), h .1)
 
 -- ---- the pending bytes in their place
 
@@ -109,8 +109,8 @@ module _ (p input head : List ℕ) (held total : ℕ) (held-is : held ≡ length
     found : Hunts heads r (p ++ take n input) before (length p) 0 h kept out
     found = subst (λ (x : ℕ). Hunts heads r (p ++ take n input) before x 0 h kept out) held-is (subst (λ (l : List ℕ). Hunts heads r l before held 0 h kept out) (j .1) f)
 
-    pub first-kept : length kept ≡ recordSize
-    first-kept = going-kept heads (take total head) before 0 r (h .at) (h .skipped) (h .wrote) kept out (f .going)
+    pub first-kept : Sound kept
+    first-kept = going-sound heads (take total head) before 0 r (h .at) (h .skipped) (h .wrote) kept out (f .going)
 
     waiting-part : take (total - h .at) (drop (h .at) head) ≡ drop (h .at) (p ++ take n input)
     waiting-part = sym (drop-take (h .at) total head) ∙ ap (drop (h .at)) (j .1)

@@ -6,7 +6,7 @@ use mathlib.Core.List.{List}
 use lib.ListN.{length, getD, take, drop}
 use Rattle.wire.specs.Sizes.{frameMost}
 use Rattle.hunt.specs.Hunt.{roomFor}
-use Rattle.record.specs.Layout.{recordSize, pendingRoom, atPending, recordOf}
+use Rattle.record.specs.Layout.{pendingRoom, atPending, recordOf}
 use Rattle.record.specs.Place.{Sound}
 use Rattle.record.proofs.PlaceLaws.{holds-long}
 use Rattle.wire.specs.Serial.{serial}
@@ -74,7 +74,7 @@ module _ (f : tie.After-hunt-in) where
   within : at ≤ total j
   within = omega (arith, long j, f .hunt-in .ensures .going .sofar .along .within)
 
-  waits-short : at < held j → (length rec₁ ≡ recordSize) × (length (take (total j - at) (drop at (head j))) ≤ pendingRoom)
+  waits-short : at < held j → Sound rec₁ × (length (take (total j - at) (drop at (head j))) ≤ pendingRoom)
   waits-short a = (
     first-kept (waiting j) (input j) (head j) (held j) (total j) (held-is (rec₀ j) (sound j)) (joins j) serial (recordOf (rec₀ j)) (out₀ j) (f .hunt-in .result) rec₁ out₁ (f .hunt-in .ensures),
     short-first (waiting j) (input j) (head j) (held j) (total j) (held-is (rec₀ j) (sound j)) (joins j) serial (recordOf (rec₀ j)) (out₀ j) (f .hunt-in .result) rec₁ out₁ (f .hunt-in .ensures) serial-huntable a,
