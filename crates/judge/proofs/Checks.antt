@@ -28,10 +28,10 @@ use Rattle.command.specs.declared.Need.the-variants.{Code}
 use Rattle.command.specs.declared.Access.{Access}
 use Rattle.command.specs.declared.Access.the-variants.{Given, Missing, WrongCode}
 use Rattle.command.specs.declared.Verdict.the-variants.{Do, Refuse}
-use Rattle.command.specs.declared.Refusal.the-variants.{Parameters}
+use Rattle.command.specs.declared.Refusal.the-variants.{Unknown, Unbuilt, Parameters, NoAccess, BadCode, TooBig, TooSmall}
 use Rattle.command.specs.Tables.{listedOf, spanOf, countedOf, needOf, rangeOf}
 use Rattle.command.specs.Judge.{accessOf, verdictOf}
-use Rattle.judge.specs.Checks.{asks, numberRefusal, accessRefusal, rangeRefusal}
+use Rattle.judge.specs.Checks.{asks}
 use Rattle.command.proofs.Refused.{verdict-is}
 use Rattle.command.proofs.Keep.{counted-span}
 
@@ -130,26 +130,36 @@ module _ (s p : List ℕ) (o : Bool) (shows : ShowsAt FlagByte atFlags s o (λ r
 -- ---- the verdict
 
 module _ (r : Record) (head number : ℕ) (p : List ℕ) where
-  pub by-number : (x : Listed) → ((c : Command) → x ≡ Built c → ⊥) → listedOf head number ≡ x → Refuse (numberRefusal x) ≡ verdictOf r head number p
-  by-number (Built c) h e = absurd (h c refl)
-  by-number NotBuilt h e = rw (verdict-is r head number p, e) refl
-  by-number Unlisted h e = rw (verdict-is r head number p, e) refl
+  pub by-unbuilt : listedOf head number ≡ NotBuilt → Refuse Unbuilt ≡ verdictOf r head number p
+  by-unbuilt e = rw (verdict-is r head number p, e) refl
+
+  -- the last answer of a check is the one that is left
+  pub by-unknown : (x : Listed) → ((c : Command) → x ≡ Built c → ⊥) → (x ≡ NotBuilt → ⊥) → listedOf head number ≡ x → Refuse Unknown ≡ verdictOf r head number p
+  by-unknown (Built c) h k e = absurd (h c refl)
+  by-unknown NotBuilt h k e = absurd (k refl)
+  by-unknown Unlisted h k e = rw (verdict-is r head number p, e) refl
 
   module _ (c : Command) (l : listedOf head number ≡ Built c) where
     pub by-count : countedOf c (length p) ≡ Wrong → Refuse Parameters ≡ verdictOf r head number p
     by-count e = rw (verdict-is r head number p, l, e) refl
 
     module _ (n : countedOf c (length p) ≡ Right) where
-      pub by-access : (x : Access) → (x ≡ Given → ⊥) → accessOf (needOf c) r p ≡ x → Refuse (accessRefusal x) ≡ verdictOf r head number p
-      by-access Given h e = absurd (h refl)
-      by-access Missing h e = rw (verdict-is r head number p, l, n, e) refl
-      by-access WrongCode h e = rw (verdict-is r head number p, l, n, e) refl
+      pub by-code : accessOf (needOf c) r p ≡ WrongCode → Refuse BadCode ≡ verdictOf r head number p
+      by-code e = rw (verdict-is r head number p, l, n, e) refl
+
+      pub by-access : (x : Access) → (x ≡ Given → ⊥) → (x ≡ WrongCode → ⊥) → accessOf (needOf c) r p ≡ x → Refuse NoAccess ≡ verdictOf r head number p
+      by-access Given h k e = absurd (h refl)
+      by-access Missing h k e = rw (verdict-is r head number p, l, n, e) refl
+      by-access WrongCode h k e = absurd (k refl)
 
       module _ (a : accessOf (needOf c) r p ≡ Given) where
-        pub by-range : (x : Range) → (x ≡ Fits → ⊥) → rangeOf c p ≡ x → Refuse (rangeRefusal x) ≡ verdictOf r head number p
-        by-range Fits h e = absurd (h refl)
-        by-range Big h e = rw (verdict-is r head number p, l, n, a, e) refl
-        by-range Small h e = rw (verdict-is r head number p, l, n, a, e) refl
+        pub by-small : rangeOf c p ≡ Small → Refuse TooSmall ≡ verdictOf r head number p
+        by-small e = rw (verdict-is r head number p, l, n, a, e) refl
+
+        pub by-big : (x : Range) → (x ≡ Fits → ⊥) → (x ≡ Small → ⊥) → rangeOf c p ≡ x → Refuse TooBig ≡ verdictOf r head number p
+        by-big Fits h k e = absurd (h refl)
+        by-big Big h k e = rw (verdict-is r head number p, l, n, a, e) refl
+        by-big Small h k e = absurd (k refl)
 
         pub by-none : rangeOf c p ≡ Fits → Do c ≡ verdictOf r head number p
         by-none e = rw (verdict-is r head number p, l, n, a, e) refl

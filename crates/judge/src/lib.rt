@@ -1,12 +1,11 @@
 // The checks of a frame, in the order of the refusals: each answers an enum, and the first that does not pass decides.
-ghost use mathlib.Core.Path.{_≡_};
 ghost use Prim.Native.Nat.{_≤_};
 ghost use lib.ListN.{length};
 ghost use Rattle.record.specs.Layout.{FlagByte, atFlags};
 ghost use Rattle.record.specs.Place.{Sound, Shows, SoundAt, ShowsAt};
 ghost use Rattle.command.specs.declared.Need.the-variants.{Code};
 ghost use Rattle.command.specs.Judge.{accessOf, verdictOf};
-ghost use Rattle.judge.specs.Checks.{asks, numberRefusal, accessRefusal, rangeRefusal};
+ghost use Rattle.judge.specs.Checks.{asks};
 use command::Access;
 use command::Counted;
 use command::Listed;
@@ -87,54 +86,33 @@ fn check_access(need: Need, rec: &[u8], p: &[u8]) -> Access
     }
 }
 
-fn number_refusal(listed: Listed) -> Refusal
-    ensures { λ r. ⌜ r ≡ numberRefusal listed ⌝ }
-{
-    match listed {
-        Listed::Built(_) => Refusal::Unknown,
-        Listed::NotBuilt => Refusal::Unbuilt,
-        Listed::Unlisted => Refusal::Unknown,
-    }
-}
-
-fn access_refusal(access: Access) -> Refusal
-    ensures { λ r. ⌜ r ≡ accessRefusal access ⌝ }
-{
-    match access {
-        Access::Given => Refusal::NoAccess,
-        Access::Missing => Refusal::NoAccess,
-        Access::WrongCode => Refusal::BadCode,
-    }
-}
-
-fn range_refusal(range: Range) -> Refusal
-    ensures { λ r. ⌜ r ≡ rangeRefusal range ⌝ }
-{
-    match range {
-        Range::Fits => Refusal::TooBig,
-        Range::Big => Refusal::TooBig,
-        Range::Small => Refusal::TooSmall,
-    }
-}
-
 pub fn judge(rec: &[u8], head: u8, number: u8, p: &[u8]) -> Verdict
     requires { ⌜ Sound (now rec) ⌝ }
     ensures { λ r. ⌜ Shows (now (rec .entry)) r (λ b. verdictOf b head number (now (p .entry))) ⌝ }
 {
     let listed = check_number(head, number);
     let Listed::Built(c) = listed else {
-        return Verdict::Refuse(number_refusal(listed));
+        return match listed {
+            Listed::NotBuilt => Verdict::Refuse(Refusal::Unbuilt),
+            _ => Verdict::Refuse(Refusal::Unknown),
+        };
     };
     let Counted::Right = check_count(c, p.len()) else {
         return Verdict::Refuse(Refusal::Parameters);
     };
     let access = check_access(need_of(c), rec, p);
     let Access::Given = access else {
-        return Verdict::Refuse(access_refusal(access));
+        return match access {
+            Access::WrongCode => Verdict::Refuse(Refusal::BadCode),
+            _ => Verdict::Refuse(Refusal::NoAccess),
+        };
     };
     let range = check_range(c, p);
     let Range::Fits = range else {
-        return Verdict::Refuse(range_refusal(range));
+        return match range {
+            Range::Small => Verdict::Refuse(Refusal::TooSmall),
+            _ => Verdict::Refuse(Refusal::TooBig),
+        };
     };
     Verdict::Do(c)
 }
