@@ -13,17 +13,17 @@ use Rattle.wire.specs.Run.{hunt}
 use Rattle.wire.proofs.CutLaws.{conserved}
 use Rattle.wire.proofs.SerialLaws.{pending-short}
 use Rattle.record.specs.Record.{Record}
-use Rattle.record.specs.Layout.{atPending, recordOf}
+use Rattle.record.specs.Layout.{atPendingLength, recordOf}
 use Rattle.record.specs.Form.{formOf}
-use Rattle.record.specs.Place.{Sound}
+use Rattle.record.specs.InPlace.{Sound}
 use Rattle.record.specs.declared.Form.the-variants.{Good, Bad}
 use Rattle.hunt.specs.Hunt.{huntOf, roomFor}
 use Rattle.hunt.specs.Progress.{Serves}
 use Rattle.call.specs.Outcome.{zeroes, refused, Leaves}
 use Rattle.call.proofs.InOrder.{left}
-use Rattle.board.specs.Calls.{served, bytesCall}
+use Rattle.board.specs.Calls.{afterBytes, bytesCall}
 use Rattle.call.specs.declared.Answer.{Answer}
-use Rattle.hunt.specs.declared.Served.{Served}
+use Rattle.hunt.specs.declared.Counts.{Counts}
 use Rattle.call.specs.declared.Ending.the-variants.{BadRecord, BadLength, NoRoom}
 use Rattle.board.proofs.Unfolded.{bytes-by}
 use Rattle.board.proofs.Ends.{good-sound}
@@ -35,7 +35,7 @@ skipped-most : (r : Record) (input : List ℕ) → huntOf r input .skipped ≤ l
 unfolding huntOf hunt
 skipped-most r input = omega (arith, conserved serial (r .pending ++ input), length-append (r .pending) input)
 
-pub served-small : (s input o : List ℕ) (p : Served) (t out : List ℕ) → Sound s → Bytes input → length input ≤ inputMost → Serves (recordOf s) input o p t out → (p .written ≤ roomFor streamMost) × (p .skipped ≤ streamMost)
+pub served-small : (s input o : List ℕ) (p : Counts) (t out : List ℕ) → Sound s → Bytes input → length input ≤ inputMost → Serves (recordOf s) input o p t out → (p .written ≤ roomFor streamMost) × (p .skipped ≤ streamMost)
 served-small s input o p t out sound b h f =
     let few = pending-short (recordOf s .pending) (sound .fit .pending) in
     (omega (arith, few, f .written-is, room-enough (recordOf s) input b (sound .fit)), omega (arith, few, f .skipped-is, skipped-most (recordOf s) input))
@@ -49,19 +49,19 @@ module _ (s input o : List ℕ) (a : Answer) where
     bytes-bad-length h e = left (bytesCall s input o) (refused BadLength s o) (bytes-by s input o ∙ rw (g, lt-ltb inputMost (length input) h) refl) a s o e refl refl
 
     module _ (bytes : Bytes s) (h : length input ≤ inputMost) where
-      pub room-is : getD s atPending 0 ≡ length (recordOf s .pending)
+      pub room-is : getD s atPendingLength 0 ≡ length (recordOf s .pending)
       room-is = held-is s (good-sound s bytes g)
 
-      pub bytes-no-room : length o < roomFor (getD s atPending 0 + length input) → a ≡ zeroes NoRoom → Leaves (bytesCall s input o) a s o
+      pub bytes-no-room : length o < roomFor (getD s atPendingLength 0 + length input) → a ≡ zeroes NoRoom → Leaves (bytesCall s input o) a s o
       bytes-no-room k e =
           let k′ : length o < roomFor (length (recordOf s .pending) + length input) = rw room-is at k in
           left (bytesCall s input o) (refused NoRoom s o)
           (bytes-by s input o ∙ rw (g, le-ltb inputMost (length input) h, lt-ltb (length o) (roomFor (length (recordOf s .pending) + length input)) k′) refl) a s o e refl refl
 
-      pub bytes-done : roomFor (getD s atPending 0 + length input) ≤ length o → (p : Served) (t out : List ℕ) → Serves (recordOf s) input o p t out
+      pub bytes-done : roomFor (getD s atPendingLength 0 + length input) ≤ length o → (p : Counts) (t out : List ℕ) → Serves (recordOf s) input o p t out
           → a ≡ record { result = 0; written = p .written; skipped = p .skipped } → Leaves (bytesCall s input o) a t out
       bytes-done k p t out f e =
           let k′ : roomFor (length (recordOf s .pending) + length input) ≤ length o = rw room-is at k in
-          left (bytesCall s input o) (served (huntOf (recordOf s) input) o)
+          left (bytesCall s input o) (afterBytes (huntOf (recordOf s) input) o)
           (bytes-by s input o ∙ rw (g, le-ltb inputMost (length input) h, le-ltb (length o) (roomFor (length (recordOf s .pending) + length input)) k′) refl) a t out
           (e ∙ rw (f .written-is, f .skipped-is) refl) (f .record-is) (f .bytes)

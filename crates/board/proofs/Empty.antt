@@ -16,7 +16,7 @@ use Rattle.record.specs.Record.{Record, withPending}
 use Rattle.record.specs.Layout.{recordOf}
 use Rattle.record.specs.Form.{InRange, wellFormed}
 use Rattle.record.proofs.RoundTrip.{in-range, write-back}
-use Rattle.command.specs.Step.{answer}
+use Rattle.command.specs.Step.{onPiece}
 use Rattle.hunt.specs.Hunt.{huntOf, recordAfter, roomFor}
 use Rattle.call.specs.declared.Ending.the-variants.{Done}
 use Rattle.call.specs.Outcome.{refused}
@@ -27,7 +27,7 @@ use Rattle.board.proofs.Ends.{form-good}
 -- nothing new: what waited waits
 idle : (r : Record) → InRange r → huntOf r [] ≡ record { state = r; said = []; skipped = 0; waiting = r .pending }
 unfolding huntOf hunt runs
-idle r i = rw (append-nil (r .pending)) (ap (runCut answer r) (waits-cut serial (r .pending) (i .pending)))
+idle r i = rw (append-nil (r .pending)) (ap (runCut onPiece r) (waits-cut serial (r .pending) (i .pending)))
 
 kept-is : (r : Record) → recordAfter (record { state = r; said = []; skipped = 0; waiting = r .pending }) ≡ r
 unfolding recordAfter withPending

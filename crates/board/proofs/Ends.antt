@@ -13,7 +13,7 @@ use Rattle.peak.proofs.PairLaws.{both}
 use Rattle.record.specs.Layout.{current, recordSize, bytesOf, recordOf}
 use Rattle.record.specs.Form.{fieldsIn, allFine, wellFormed, formBy, formOf}
 use Rattle.record.specs.Births.{factory, poweredOn}
-use Rattle.record.specs.Place.{Sound, Turns}
+use Rattle.record.specs.InPlace.{Sound, Turns}
 use Rattle.record.specs.declared.Form.the-variants.{Good, Bad}
 use Rattle.record.proofs.RoundTrip.{in-range, write-back}
 use Rattle.call.specs.declared.Answer.{Answer}

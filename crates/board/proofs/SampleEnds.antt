@@ -16,7 +16,7 @@ use Rattle.call.specs.declared.Answer.{Answer}
 use Rattle.call.specs.declared.Ending.the-variants.{Done, BadRecord, BadLength, NoRoom, NotFinite}
 use Rattle.call.specs.Outcome.{zeroes, refused, done, Leaves}
 use Rattle.call.proofs.InOrder.{left}
-use Rattle.board.specs.Calls.{sampleSize, frameSize, measured, samplesCall}
+use Rattle.board.specs.Calls.{sampleSize, frameSize, measuringFrame, samplesCall}
 use Rattle.board.proofs.Unfolded.{samples-by}
 
 module _ (s sample o : List ℕ) (a : Answer) where
@@ -43,11 +43,11 @@ module _ (s sample o : List ℕ) (a : Answer) where
               left (samplesCall s sample o) (refused Done (bytesOf (readingOf (recordOf s) sample)) o)
               (samples-by s sample o ∙ rw (good, eq-eqb (length sample) sampleSize long, le-ltb (length o) frameSize room, finite, h, put-nil o 0) refl) a t o e kept refl
 
-          pub sent : recordOf s .flags .sending ≡ true → (p : List ℕ) → p ≡ put o 0 (measured channels sample) → a ≡ record { result = 0; written = frameSize; skipped = 0 } → Leaves (samplesCall s sample o) a t p
+          pub sent : recordOf s .flags .sending ≡ true → (p : List ℕ) → p ≡ put o 0 (measuringFrame channels sample) → a ≡ record { result = 0; written = frameSize; skipped = 0 } → Leaves (samplesCall s sample o) a t p
           sent h p q e =
-              left (samplesCall s sample o) (done (readingOf (recordOf s) sample) (measured channels sample) 0 o)
+              left (samplesCall s sample o) (done (readingOf (recordOf s) sample) (measuringFrame channels sample) 0 o)
               (samples-by s sample o ∙ rw (good, eq-eqb (length sample) sampleSize long, le-ltb (length o) frameSize room, finite, h) refl) a t p e kept q
 
 -- "24 bytes", "28 bytes", "AA 15 B0"
-pub six-channels : (sampleSize ≡ 24) × (frameSize ≡ 28) × ((sample : List ℕ) → take 3 (measured channels sample) ≡ 0xAA ∷ 0x15 ∷ 0xB0 ∷ [])
+pub six-channels : (sampleSize ≡ 24) × (frameSize ≡ 28) × ((sample : List ℕ) → take 3 (measuringFrame channels sample) ≡ 0xAA ∷ 0x15 ∷ 0xB0 ∷ [])
 six-channels = (refl, refl, λ sample. refl)

@@ -6,7 +6,7 @@ use Rattle.record.specs.Layout.{recordOf}
 use Rattle.record.specs.Births.{factory, poweredOn}
 use Rattle.hunt.specs.Hunt.{huntOf}
 use Rattle.call.specs.Outcome.{done, inOrder}
-use Rattle.board.specs.Calls.{factoryCauses, factoryCall, powerOnCauses, powerOnCall, bytesCauses, served, bytesCall, samplesCauses, read, samplesCall}
+use Rattle.board.specs.Calls.{factoryCauses, factoryCall, powerOnCauses, powerOnCall, bytesCauses, afterBytes, bytesCall, samplesCauses, afterSample, samplesCall}
 
 pub factory-by : (s : List ℕ) → factoryCall s ≡ inOrder (factoryCauses s) s [] (done factory [] 0 [])
 unfolding factoryCall
@@ -16,10 +16,10 @@ pub power-on-by : (s : List ℕ) → powerOnCall s ≡ inOrder (powerOnCauses s)
 unfolding powerOnCall
 power-on-by s = refl
 
-pub bytes-by : (s input o : List ℕ) → bytesCall s input o ≡ inOrder (bytesCauses s input o) s o (served (huntOf (recordOf s) input) o)
+pub bytes-by : (s input o : List ℕ) → bytesCall s input o ≡ inOrder (bytesCauses s input o) s o (afterBytes (huntOf (recordOf s) input) o)
 unfolding bytesCall
 bytes-by s input o = refl
 
-pub samples-by : (s sample o : List ℕ) → samplesCall s sample o ≡ inOrder (samplesCauses s sample o) s o (read (recordOf s) sample o)
+pub samples-by : (s sample o : List ℕ) → samplesCall s sample o ≡ inOrder (samplesCauses s sample o) s o (afterSample (recordOf s) sample o)
 unfolding samplesCall
 samples-by s sample o = refl

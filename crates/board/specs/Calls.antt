@@ -49,13 +49,13 @@ bytesCauses s input o =
     ∷ []
 
 -- "The call returns the reply bytes written and the number of bytes skipped."
-abbrev pub served : Hunted Record Reply → List ℕ → Outcome
-served h o = done (recordAfter h) (written (h .said)) (h .skipped) o
+abbrev pub afterBytes : Hunted Record Reply → List ℕ → Outcome
+afterBytes h o = done (recordAfter h) (written (h .said)) (h .skipped) o
 
 -- "bytes (received bytes in, replies out)"
 unfoldable pub bytesCall : List ℕ → List ℕ → List ℕ → Outcome
 unfolding huntOf recordAfter written bytesOf recordOf put wellFormed
-bytesCall s input o = inOrder (bytesCauses s input o) s o (served (huntOf (recordOf s) input) o)
+bytesCall s input o = inOrder (bytesCauses s input o) s o (afterBytes (huntOf (recordOf s) input) o)
 
 -- ---- samples
 
@@ -68,8 +68,8 @@ abbrev pub frameSize : ℕ
 frameSize = 4 + sampleSize
 
 -- "AA 15 B0, the 24 bytes, 85": a measuring frame of n channels, whose second byte is 15 at six; `six-channels` of board/proofs/SampleEnds shows it at six
-abbrev pub measured : ℕ → List ℕ → List ℕ
-measured n sample = 0xAA ∷ (0x0F + n) ∷ 0xB0 ∷ bytesAt (4 * n) sample 0 ++ (0x85 ∷ [])
+abbrev pub measuringFrame : ℕ → List ℕ → List ℕ
+measuringFrame n sample = 0xAA ∷ (0x0F + n) ∷ 0xB0 ∷ bytesAt (4 * n) sample 0 ++ (0x85 ∷ [])
 
 -- "2: not 24"; "3: shorter than 28, also with sending off"; "4: a sample is infinite or not a number"
 abbrev pub samplesCauses : List ℕ → List ℕ → List ℕ → List Cause
@@ -81,10 +81,10 @@ samplesCauses s sample o =
     ∷ []
 
 -- "If sending is on, the output gets AA 15 B0, the 24 bytes, 85 (28 bytes); else nothing."; nothing is skipped
-abbrev pub read : Record → List ℕ → List ℕ → Outcome
-read r sample o = done (readingOf r sample) (cond (r .flags .sending) (measured channels sample) []) 0 o
+abbrev pub afterSample : Record → List ℕ → List ℕ → Outcome
+afterSample r sample o = done (readingOf r sample) (cond (r .flags .sending) (measuringFrame channels sample) []) 0 o
 
 -- "samples (one reading of six channels in, a measuring frame out)"
 unfoldable pub samplesCall : List ℕ → List ℕ → List ℕ → Outcome
 unfolding readingOf allFinite bytesOf recordOf put wellFormed
-samplesCall s sample o = inOrder (samplesCauses s sample o) s o (read (recordOf s) sample o)
+samplesCall s sample o = inOrder (samplesCauses s sample o) s o (afterSample (recordOf s) sample o)

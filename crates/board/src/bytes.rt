@@ -8,7 +8,7 @@ use form::form_of;
 use hunt::room_for;
 use hunt::serve;
 use record::Form;
-use record::places::AT_PENDING;
+use record::places::AT_PENDING_LENGTH;
 use wire::sizes::INPUT_MOST;
 
 // Carries out every whole frame of the pending bytes and the input; what waits becomes the new pending bytes.
@@ -22,7 +22,7 @@ pub extern "C" fn board_bytes(rec: &mut [u8], input: &[u8], out: &mut [u8]) -> A
     if INPUT_MOST < input.len() {
         return ended(Ending::BadLength);
     }
-    let held = rec[AT_PENDING] as usize;
+    let held = rec[AT_PENDING_LENGTH] as usize;
     if out.len() < room_for(held, input.len()) {
         return ended(Ending::NoRoom);
     }

@@ -6,7 +6,7 @@ use call::Answer;
 use call::Ending;
 use call::ended;
 use form::form_of;
-use parts::fresh::switch_on;
+use parts::fresh::power_on;
 use record::Form;
 
 // Closes, locks, gives new tries, switches outputs off and sending on, drops what waited and was measured; the rest stays.
@@ -17,6 +17,6 @@ pub extern "C" fn board_power_on(rec: &mut [u8]) -> Answer
     let Form::Good = form_of(rec) else {
         return ended(Ending::BadRecord);
     };
-    switch_on(rec);
+    power_on(rec);
     ended(Ending::Done)
 }

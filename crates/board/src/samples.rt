@@ -5,7 +5,7 @@ ghost use lib.ListN.{length};
 ghost use Rattle.wire.specs.Numbers.{put};
 ghost use Rattle.record.specs.Layout.{channels};
 ghost use Rattle.call.specs.Outcome.{Leaves};
-ghost use Rattle.board.specs.Calls.{sampleSize, frameSize, measured, samplesCall};
+ghost use Rattle.board.specs.Calls.{sampleSize, frameSize, measuringFrame, samplesCall};
 use call::Answer;
 use call::Ending;
 use call::ended;
@@ -23,10 +23,10 @@ const FRAME_SIZE: usize = 28;
 const FRAME_COUNT: u32 = FRAME_SIZE as u32;
 
 // A measuring frame at the start of the output.
-fn put_frame(out: &mut [u8], sample: &[u8])
+fn put_measuring_frame(out: &mut [u8], sample: &[u8])
     requires { ⌜ frameSize ≤ length (now out) ⌝ }
     requires { ⌜ length (now sample) ≡ sampleSize ⌝ }
-    ensures { λ _. ⌜ now (out .exit) ≡ put (now (out .entry)) 0 (measured channels (now (sample .entry))) ⌝ }
+    ensures { λ _. ⌜ now (out .exit) ≡ put (now (out .entry)) 0 (measuringFrame channels (now (sample .entry))) ⌝ }
 {
     let frame = [
         0xAA,
@@ -79,7 +79,7 @@ pub extern "C" fn board_samples(rec: &mut [u8], sample: &[u8], out: &mut [u8]) -
         return ended(Ending::NotFinite);
     }
     if take_reading(rec, sample) {
-        put_frame(out, sample);
+        put_measuring_frame(out, sample);
         return Answer {
             result: 0,
             written: FRAME_COUNT,

@@ -120,7 +120,7 @@ module _ (s o : List ℕ) (z : Outcome) where
   pub ends : (causes : List Cause) (reasons : List Reason) → DecidesAll causes reasons → z .answer .result ≡ 0 → Ends reasons s o (inOrder causes s o z)
   ends causes reasons d e = record {
     refuses = refuses causes reasons d;
-    done = (
+    done-exactly = (
       (λ f. none-wrong causes reasons d (ended-none causes reasons d f)),
       λ n. ap (λ (x : Outcome). x .answer .result) (none-left causes s o z (no-reason causes reasons d n)) ∙ e,
     );

@@ -27,4 +27,4 @@ Refuses (r ∷ reasons) s o z = (r .wrong → z ≡ refused (r .why) s o) × (¬
 -- and the result is 0 exactly when nothing is wrong
 pub record Ends (reasons : List Reason) (s o : List ℕ) (z : Outcome) : Type 0 where
   pub refuses : Refuses reasons s o z
-  pub done : (z .answer .result ≡ 0) ↔ NoReason reasons
+  pub done-exactly : (z .answer .result ≡ 0) ↔ NoReason reasons

@@ -12,8 +12,8 @@ use Rattle.wire.proofs.PutLaws.{put-nil}
 use Rattle.wire.proofs.ReplyLaws.{length-reply, closed-reply}
 use Rattle.record.specs.Record.{Record}
 use Rattle.record.specs.Layout.{bytesOf, recordOf}
-use Rattle.record.specs.Place.{Holds, Sound, Turns, Shows}
-use Rattle.record.proofs.PlaceLaws.{holds-is, turn-holds}
+use Rattle.record.specs.InPlace.{Holds, Sound, Turns, Shows}
+use Rattle.record.proofs.InPlaceLaws.{holds-is, turn-holds}
 use Rattle.record.proofs.Lens.{get-tries}
 use Rattle.command.specs.Tables.{countedOf, needOf, rangeOf}
 use Rattle.command.specs.Effects.{effectOf, dataOf}
@@ -27,8 +27,8 @@ use Rattle.command.specs.declared.Verdict.{Verdict}
 use Rattle.command.specs.declared.Verdict.the-variants.{Do, Refuse}
 use Rattle.command.proofs.Refused.{Checks, checks, by-is, step-by, step-is, passed}
 use Rattle.command.proofs.Keep.{by-in, wrong-code}
-use Rattle.answer.specs.Answers.{Answers}
-use Rattle.answer.proofs.Data.{data-after}
+use Rattle.data.specs.PutsData.{PutsData}
+use Rattle.data.proofs.Data.{data-after}
 use Rattle.effect.specs.Countable.{Countable}
 use Rattle.carry.specs.Carry.{Acts, Carries}
 
@@ -100,7 +100,7 @@ module _ (r : Record) (f before : List ℕ) (at : ℕ) (v : Verdict) (kept : Lis
         let a : stepOf r f .after ≡ effectOf c r (paramsOf f) = ap (λ (x : Step). x .after) (step-is r f) ∙ rw verdict-do refl in
         rw (part-is f, holds-is (stepOf r f .after) kept held-is, a) (data-after c r (paramsOf f))
 
-    pub carries-do : (n end : ℕ) (mid after : List ℕ) → Answers before (at + 3) (dataOf c (recordOf kept) (part f)) n mid → end ≡ at + 4 + n → after ≡ around mid at (getD f 1 0) 0 n → Carries r f before at end kept after
+    pub carries-do : (n end : ℕ) (mid after : List ℕ) → PutsData before (at + 3) (dataOf c (recordOf kept) (part f)) n mid → end ≡ at + 4 + n → after ≡ around mid at (getD f 1 0) 0 n → Carries r f before at end kept after
     carries-do n end mid after d q o =
         let x : List ℕ = dataOf c r (paramsOf f) in
         let m : length x ≡ n = ap length (sym data-is) ∙ sym (d .0) in

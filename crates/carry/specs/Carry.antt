@@ -7,7 +7,7 @@ use Rattle.wire.specs.Sizes.{frameMost}
 use Rattle.wire.specs.Numbers.{put}
 use Rattle.wire.specs.Replies.{replyBytes}
 use Rattle.record.specs.Record.{Record}
-use Rattle.record.specs.Place.{Holds}
+use Rattle.record.specs.InPlace.{Holds}
 use Rattle.command.specs.Judge.{verdictOf}
 use Rattle.command.specs.Step.{stepBy, stepOf}
 use Rattle.command.specs.declared.Verdict.{Verdict}

@@ -6,12 +6,12 @@ ghost use lib.ListN.{length};
 ghost use Rattle.wire.specs.Sizes.{frameMost};
 ghost use Rattle.wire.specs.Serial.{isHead, headOf};
 ghost use Rattle.record.specs.Layout.{recordOf};
-ghost use Rattle.record.specs.Place.{Sound};
+ghost use Rattle.record.specs.InPlace.{Sound};
 ghost use Rattle.carry.specs.Carry.{Acts, Carries};
-use answer::put_data;
 use command::Verdict;
-use effect::carry_out;
+use data::put_data;
 use effect::refuse_on;
+use effect::take_effect;
 use judge::judge;
 use table::status_of;
 use wire::reply::close_reply;
@@ -24,7 +24,7 @@ pub fn act(rec: &mut [u8], head: u8, number: u8, p: &[u8]) -> Verdict
     let verdict = judge(rec, head, number, p);
     match verdict {
         Verdict::Do(c) => {
-            carry_out(rec, c, p);
+            take_effect(rec, c, p);
         }
         Verdict::Refuse(why) => {
             refuse_on(rec, why);

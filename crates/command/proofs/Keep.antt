@@ -30,7 +30,7 @@ use Rattle.command.specs.declared.Refusal.the-variants.{Unknown, Unbuilt
 use Rattle.command.specs.declared.Verdict.{Verdict}
 use Rattle.command.specs.declared.Verdict.the-variants.{Do, Refuse}
 use Rattle.command.specs.Tables.{spanOf, countedOf, countedBy, needOf, rangeOf, inputChannel}
-use Rattle.command.specs.Effects.{effectOf, dataOf, closedModel}
+use Rattle.command.specs.Effects.{effectOf, dataOf, modelData}
 use Rattle.command.specs.Judge.{accessOf, verdictOf}
 use Rattle.command.specs.Step.{leftBy, settled, stepBy, stepOf}
 use Rattle.command.proofs.Refused.{verdict, by-is, step-by, step-is, Checks, checks}
@@ -155,7 +155,7 @@ step-pending r f = rw (step-is r f) (blind r (r .code) (headOf f) (paramsOf f) (
 
 -- ---- the data of a reply
 
-closed-short : (m : List ℕ) → length m ≤ 15 → length (closedModel m) ≤ 15
+closed-short : (m : List ℕ) → length m ≤ 15 → length (modelData m) ≤ 15
 closed-short m h = go (ltb (length m) 15) refl
   where
     go : (t : Bool) → ltb (length m) 15 ≡ t → length (m ++ cond t (0x00 ∷ []) []) ≤ 15

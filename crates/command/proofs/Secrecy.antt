@@ -21,7 +21,7 @@ use Rattle.command.specs.declared.Verdict.the-variants.{Do}
 use Rattle.command.specs.Tables.{listedOf, countedOf, needOf, rangeOf}
 use Rattle.command.specs.Judge.{accessOf, byRange, byAccess, byCount, byNumber, judged, verdictOf}
 use Rattle.command.specs.Step.{stepOf}
-use Rattle.command.specs.Compare.{isRight, isCode, unlocking, compares, carried}
+use Rattle.command.specs.Compare.{isRight, isCode, unlocking, compares, codeIn}
 use Rattle.command.proofs.Refused.{verdict-is, verdict, step-is}
 use Rattle.command.proofs.Blind.{blind}
 
@@ -58,7 +58,7 @@ module _ (r : Record) (k : ℕ) (p : List ℕ) where
   verdict-same : (head number : ℕ) → Apart (unlocking p (listedOf head number)) → verdictOf (withCode r k) head number p ≡ verdictOf r head number p
   verdict-same head number h = rw (verdict-is r head number p, verdict-is (withCode r k) head number p) (number-same (listedOf head number) h)
 
-pub step-same : (r : Record) (k : ℕ) (f : List ℕ) → (compares r f ≡ true → (carried f ≡ r .code → ⊥) × (carried f ≡ k → ⊥))
+pub step-same : (r : Record) (k : ℕ) (f : List ℕ) → (compares r f ≡ true → (codeIn f ≡ r .code → ⊥) × (codeIn f ≡ k → ⊥))
     → (stepOf (withCode r k) f .reply ≡ stepOf r f .reply) × (stepOf (withCode r k) f .after ≡ withCode (stepOf r f .after) k)
 unfolding compares
 step-same r k f h =

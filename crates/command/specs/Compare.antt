@@ -39,5 +39,5 @@ unfolding listedOf countedOf needOf
 compares r f = unlocking (paramsOf f) (listedOf (headOf f) (numberOf f)) && not (r .flags .opened) && ltb (r .tries) 3
 
 -- the code that such a frame carries
-abbrev pub carried : List ℕ → ℕ
-carried f = wordAt (paramsOf f) 0
+abbrev pub codeIn : List ℕ → ℕ
+codeIn f = wordAt (paramsOf f) 0

@@ -59,8 +59,8 @@ effectOf SetFilter r p = withSettings r (withFilter (r .settings) (wordAt p 0))
 effectOf ReadPair r p = r
 
 -- "a 00 follows if shorter than 15"
-abbrev pub closedModel : List ℕ → List ℕ
-closedModel m = m ++ cond (ltb (length m) modelRoom) (0x00 ∷ []) []
+abbrev pub modelData : List ℕ → List ℕ
+modelData m = m ++ cond (ltb (length m) modelRoom) (0x00 ∷ []) []
 
 -- The data of its reply, those of a command that sets are none. E0: "00 14"
 unfoldable pub dataOf : Command → Record → List ℕ → List ℕ
@@ -87,7 +87,7 @@ dataOf Unlock r p = []
 -- 1A: "00 locked, 08 unlocked"
 dataOf ReadLock r p = cond (r .flags .unlocked) 0x08 0x00 ∷ []
 -- 1B: "model; a 00 follows if shorter than 15"
-dataOf ReadModel r p = closedModel (r .model)
+dataOf ReadModel r p = modelData (r .model)
 dataOf SetModel r p = []
 dataOf StopSending r p = []
 dataOf StartSending r p = []

@@ -46,6 +46,6 @@ unfolding stepBy
 stepOf r f = stepBy r (headOf f) (numberOf f) (paramsOf f)
 
 -- what the board does with a piece of the stream: "the frame is carried out and replied to"; a broken head is passed "without a reply"
-abbrev pub answer : Record → Piece → Run Record Reply
-answer r (Whole f) = record { state = stepOf r f .after; said = stepOf r f .reply ∷ [] }
-answer r (Broken head) = record { state = r; said = [] }
+abbrev pub onPiece : Record → Piece → Run Record Reply
+onPiece r (Whole f) = record { state = stepOf r f .after; said = stepOf r f .reply ∷ [] }
+onPiece r (Broken head) = record { state = r; said = [] }

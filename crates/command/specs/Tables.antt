@@ -22,18 +22,18 @@ use Rattle.command.specs.declared.Need.the-variants.{Nothing, Opened, Cl
 
 -- ---- which number is which command
 
-pub record Row : Type 0 where
+pub record CommandRow : Type 0 where
   pub number : ℕ
   pub listed : Listed
 
-abbrev pub row : ℕ → Command → Row
+abbrev pub row : ℕ → Command → CommandRow
 row n c = record { number = n; listed = Built c }
 
-abbrev pub unbuilt : ℕ → Row
+abbrev pub unbuilt : ℕ → CommandRow
 unbuilt n = record { number = n; listed = NotBuilt }
 
 -- "Known but not built: EA, EC, EF."
-abbrev pub bt121 : List Row
+abbrev pub bt121 : List CommandRow
 bt121 =
     row 0xE0 Open
     ∷ row 0xE1 Close
@@ -58,7 +58,7 @@ bt121 =
     ∷ []
 
 -- "Known but not built: 17, 18, 50, 54, 55."
-abbrev pub amplifier : List Row
+abbrev pub amplifier : List CommandRow
 amplifier =
     row 0x19 Unlock
     ∷ row 0x1A ReadLock
@@ -76,7 +76,7 @@ amplifier =
     ∷ unbuilt 0x55
     ∷ []
 
-abbrev pub lookUp : ℕ → List Row → Listed
+abbrev pub lookUp : ℕ → List CommandRow → Listed
 lookUp n [] = Unlisted
 lookUp n (r ∷ rows) = cond (eqb n (r .number)) (r .listed) (lookUp n rows)
 

@@ -1,5 +1,5 @@
 -- The laws of every call: a new call adds its line here.
-use Rattle.demands.specs.Calls.{Name, Factory, PowerOn, Receive, Sample, callOf}
+use Rattle.demands.specs.CallList.{Name, Factory, PowerOn, BytesIn, SamplesIn, callOf}
 use Rattle.demands.proofs.Laws.{Laws}
 use Rattle.demands.proofs.FactoryLaws.{factory-laws}
 use Rattle.demands.proofs.PowerOnLaws.{power-on-laws}
@@ -9,5 +9,5 @@ use Rattle.demands.proofs.SamplesLaws.{samples-laws}
 pub laws-of : (n : Name) → Laws (callOf n)
 laws-of Factory = factory-laws
 laws-of PowerOn = power-on-laws
-laws-of Receive = bytes-laws
-laws-of Sample = samples-laws
+laws-of BytesIn = bytes-laws
+laws-of SamplesIn = samples-laws

@@ -16,11 +16,11 @@ use Rattle.call.specs.declared.Ending.the-variants.{Done, BadRecord}
 use Rattle.call.specs.Outcome.{Outcome, refused}
 use Rattle.call.proofs.InOrder.{allowed-is}
 use Rattle.board.specs.Calls.{bytesCall}
-use Rattle.demands.specs.Calls.{Receive}
-use Rattle.demands.specs.Examples.{opening}
-use Rattle.demands.specs.Boards.{Board, Frame, RefusesAll, SaysDone, DoesNothing, FirstOnly, InventsCount, ShutOut, WrongShutOut, KindsExist}
-use Rattle.demands.proofs.Ending.{ends-properly}
-use Rattle.demands.proofs.Carried.{answers-as-listed}
+use Rattle.demands.specs.CallList.{BytesIn}
+use Rattle.demands.specs.Examples.{openFrame}
+use Rattle.demands.specs.Boards.{Board, OneFrame, RefusesAll, SaysDone, DoesNothing, FirstOnly, InventsCount, ShutOut, WrongShutOut, KindsExist}
+use Rattle.demands.proofs.EndsProperly.{ends-properly}
+use Rattle.demands.proofs.AsListed.{answers-as-listed}
 
 -- 23 stops sending; E3 with 0 sets the power
 abbrev stop : List ℕ
@@ -40,17 +40,17 @@ no-refuser h = h (bytesOf factory) stop room refl refl refl refl
 -- the answer to E0 has data
 no-sayer : ¬ SaysDone bytesCall
 unfolding bytesCall factory bytesOf recordOf cutFrom serial
-no-sayer h = let z : _≡_ {A = ℕ} 6 4 = ap length (h (bytesOf factory) opening room refl refl refl) in omega arith
+no-sayer h = let z : _≡_ {A = ℕ} 6 4 = ap length (h (bytesOf factory) openFrame room refl refl refl) in omega arith
 
 -- power 12 becomes 0
 no-idler : ¬ DoesNothing bytesCall
 unfolding bytesCall factory bytesOf recordOf
-no-idler h = let z : _≡_ {A = ℕ} 0 12 = ap (λ (g : Settings). g .power) (h (bytesOf factory) (opening ++ weaken) room) in omega arith
+no-idler h = let z : _≡_ {A = ℕ} 0 12 = ap (λ (g : Settings). g .power) (h (bytesOf factory) (openFrame ++ weaken) room) in omega arith
 
 -- after 23 the board is opened
 no-starter : ¬ FirstOnly bytesCall
 unfolding bytesCall factory bytesOf recordOf cutFrom serial
-no-starter h = let z : _≡_ {A = ℕ} 1 0 = ap (λ (s : List ℕ). getD s atFlags 0) (h (bytesOf factory) stop opening room refl refl refl refl refl) in omega arith
+no-starter h = let z : _≡_ {A = ℕ} 1 0 = ap (λ (s : List ℕ). getD s atFlags 0) (h (bytesOf factory) stop openFrame room refl refl refl refl refl) in omega arith
 
 -- a call that is done gives the cut's count
 no-inventor : ¬ InventsCount bytesCall
@@ -58,7 +58,7 @@ no-inventor h =
     let s = h .0 in
     let input = h .1 in
     let o = h .2 in
-    let served = ends-properly .ends (record { name = Receive; lent = record { input = input; output = o } }) s .done .0 (h .3) in
+    let served = ends-properly .ends (record { name = BytesIn; lent = record { input = input; output = o } }) s .done-exactly .0 (h .3) in
     h .4 (ap (λ (z : Outcome). z .answer .skipped) (answers-as-listed .in-turn .call s input o served))
 
 pub wrong-shut-out : WrongShutOut
@@ -75,7 +75,7 @@ first [] = []
 first (Whole f ∷ ps) = f
 first (Broken head ∷ ps) = []
 
-first-of : (f g : List ℕ) → Frame f → first (cut serial (f ++ g) .pieces) ≡ f
+first-of : (f g : List ℕ) → OneFrame f → first (cut serial (f ++ g) .pieces) ≡ f
 first-of f g e = rw (packets serial serial-steady f g, e) refl
 
 -- it replies to every frame and carries out the first

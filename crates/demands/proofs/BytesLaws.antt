@@ -17,7 +17,7 @@ use Rattle.record.specs.Record.{Record, withCode, withPending}
 use Rattle.record.specs.Layout.{recordOf}
 use Rattle.record.specs.Form.{wellFormed}
 use Rattle.record.proofs.RoundTrip.{in-range}
-use Rattle.command.specs.Step.{answer}
+use Rattle.command.specs.Step.{onPiece}
 use Rattle.hunt.specs.Hunt.{huntFrom, huntOf, recordAfter, roomFor}
 use Rattle.hunt.proofs.Kept.{hunt-in}
 use Rattle.hunt.proofs.Room.{room-enough}
@@ -25,10 +25,10 @@ use Rattle.call.specs.declared.Ending.the-variants.{BadLength, NoRoom}
 use Rattle.call.specs.Outcome.{Outcome, cause, done}
 use Rattle.call.specs.Ending.{NoReason}
 use Rattle.call.proofs.InOrder.{None, SameCauses, none-left}
-use Rattle.board.specs.Calls.{bytesCauses, served, bytesCall}
+use Rattle.board.specs.Calls.{bytesCauses, afterBytes, bytesCall}
 use Rattle.board.proofs.Unfolded.{bytes-by}
 use Rattle.demands.specs.Premise.{SameButCode, QuietRun, Alike}
-use Rattle.demands.specs.Calls.{bytesReasons, bytes}
+use Rattle.demands.specs.CallList.{bytesReasons, bytesEntry}
 use Rattle.demands.proofs.Tests.{formed, malformed, below}
 use Rattle.demands.proofs.OtherCode.{other-record, own-code, well-size, same-form, done-alike}
 use Rattle.demands.proofs.QuietRun.{Agree, run-same, quiet-used, run-tries}
@@ -39,12 +39,12 @@ after-alike : (b q : Record) (said more : List Reply) (n : ℕ) (l o : List ℕ)
 unfolding withPending withCode
 after-alike b q said more n l o e f = rw (← e, f) (done-alike (withPending b l) (q .code) (written said) n o)
 
-stream-alike : (r q : Record) (l o : List ℕ) → Agree r q → QuietRun r q (cut serial l .pieces) → Alike (served (huntFrom r l) o) (served (huntFrom q l) o)
+stream-alike : (r q : Record) (l o : List ℕ) → Agree r q → QuietRun r q (cut serial l .pieces) → Alike (afterBytes (huntFrom r l) o) (afterBytes (huntFrom q l) o)
 unfolding hunt recordAfter
 stream-alike r q l o e h =
     let c = cut serial l in
-    let a = runs answer r (c .pieces) in
-    let b = runs answer q (c .pieces) in
+    let a = runs onPiece r (c .pieces) in
+    let b = runs onPiece q (c .pieces) in
     let x = run-same r q (c .pieces) e h in
     after-alike (a .state) (b .state) (a .said) (b .said) (c .skipped) (c .waiting) o (x .0) (x .1)
 
@@ -57,7 +57,7 @@ pending-same : (r q : Record) → Agree r q → q .pending ≡ r .pending
 unfolding withCode
 pending-same r q e = ap (λ (z : Record). z .pending) e
 
-served-alike : (r q : Record) (input o : List ℕ) → Agree r q → QuietRun r q (cut serial (r .pending ++ input) .pieces) → Alike (served (huntOf r input) o) (served (huntOf q input) o)
+served-alike : (r q : Record) (input o : List ℕ) → Agree r q → QuietRun r q (cut serial (r .pending ++ input) .pieces) → Alike (afterBytes (huntOf r input) o) (afterBytes (huntOf q input) o)
 served-alike r q input o e h = rw (hunt-from r r input refl, hunt-from r q input (pending-same r q e)) (stream-alike r q (r .pending ++ input) o e h)
 
 hunt-tries : (r : Record) (input : List ℕ) → 3 ≤ r .tries → 3 ≤ recordAfter (huntOf r input) .tries
@@ -76,12 +76,12 @@ module _ (s t input o : List ℕ) (bs : Bytes s) (bt : Bytes t) (same : SameButC
   bytes-same = (same-form s t bs bt same, λ h. (refl, λ i. (room-same (formed s h), λ j. tt)))
 
   bytes-alike : None (bytesCauses s input o) → (bytesCall s input o .answer .result ≡ 0 → QuietRun (recordOf s) (recordOf t) (cut serial (recordOf s .pending ++ input) .pieces))
-      → Alike (served (huntOf (recordOf s) input) o) (served (huntOf (recordOf t) input) o)
+      → Alike (afterBytes (huntOf (recordOf s) input) o) (afterBytes (huntOf (recordOf t) input) o)
   bytes-alike n h =
       served-alike (recordOf s) (recordOf t) input o (agrees (formed s (n .0)))
-      (h (ap (λ (z : Outcome). z .answer .result) (bytes-by s input o ∙ none-left (bytesCauses s input o) s o (served (huntOf (recordOf s) input) o) n)))
+      (h (ap (λ (z : Outcome). z .answer .result) (bytes-by s input o ∙ none-left (bytesCauses s input o) s o (afterBytes (huntOf (recordOf s) input) o) n)))
 
-pub bytes-laws : Laws bytes
+pub bytes-laws : Laws bytesEntry
 bytes-laws = record {
   causes = λ l s. bytesCauses s (l .input) (l .output);
   after = λ l s. recordAfter (huntOf (recordOf s) (l .input));
@@ -98,10 +98,10 @@ bytes-laws = record {
       omega (arith, room-enough (recordOf s) (l .input) g (in-range s b (formed s (n .0))), ltb-false (length (l .output)) (roomFor (length (recordOf s .pending) + length (l .input))) (n .1 .1 .0));
   same = λ l s t bs bt same. bytes-same s t (l .input) (l .output) bs bt same;
   alike = λ l s t bs bt same n h. bytes-alike s t (l .input) (l .output) bs bt same n h;
-  hushed = λ e l s t h z. quiet-used (recordOf s) (recordOf t) (cut serial (recordOf s .pending ++ l .input) .pieces) h;
+  quiet = λ e l s t h z. quiet-used (recordOf s) (recordOf t) (cut serial (recordOf s .pending ++ l .input) .pieces) h;
   tries = λ e l s h. hunt-tries (recordOf s) (l .input) h;
 }
 
-pub bytes-done : (s input o : List ℕ) → NoReason (bytesReasons s input o) → bytesCall s input o ≡ served (huntOf (recordOf s) input) o
+pub bytes-done : (s input o : List ℕ) → NoReason (bytesReasons s input o) → bytesCall s input o ≡ afterBytes (huntOf (recordOf s) input) o
 unfolding bytes-laws
-bytes-done s input o n = left-by bytes bytes-laws (record { input = input; output = o }) s n
+bytes-done s input o n = left-by bytesEntry bytes-laws (record { input = input; output = o }) s n

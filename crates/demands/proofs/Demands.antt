@@ -2,8 +2,8 @@
 use Rattle.board.proofs.Exported.{all-exported}
 use Rattle.demands.specs.Demands.{Demands}
 use Rattle.demands.proofs.Unique.{unique}
-use Rattle.demands.proofs.Ending.{ends-properly}
-use Rattle.demands.proofs.Carried.{answers-as-listed}
+use Rattle.demands.proofs.EndsProperly.{ends-properly}
+use Rattle.demands.proofs.AsListed.{answers-as-listed}
 use Rattle.demands.proofs.Boards.{wrong-shut-out, kinds-exist}
 use Rattle.demands.proofs.Examples.{starred-hold}
 use Rattle.demands.proofs.Secrecy.{compared, one-call, nothing-told, nothing-told-used-up, premise-met, premise-needed}

@@ -3,9 +3,9 @@ use mathlib.Core.Path.{refl}
 use Rattle.record.specs.Layout.{bytesOf, recordOf}
 use Rattle.record.specs.Births.{factory}
 use Rattle.board.specs.Calls.{bytesCall}
-use Rattle.demands.specs.Examples.{starred, Holds}
+use Rattle.demands.specs.Examples.{starred, ExamplesHold}
 
-pub starred-hold : Holds starred
+pub starred-hold : ExamplesHold starred
 unfolding bytesCall factory bytesOf recordOf
 starred-hold = (
   (refl, refl, refl),

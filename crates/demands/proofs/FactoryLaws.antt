@@ -14,12 +14,12 @@ use Rattle.call.specs.declared.Ending.the-variants.{BadRecord}
 use Rattle.call.specs.Outcome.{done, cause}
 use Rattle.board.specs.Calls.{factoryCauses, factoryCall}
 use Rattle.board.proofs.Unfolded.{factory-by}
-use Rattle.demands.specs.Calls.{factory}
+use Rattle.demands.specs.CallList.{factoryEntry}
 use Rattle.demands.proofs.Tests.{other}
 use Rattle.demands.proofs.OtherCode.{same-own}
 use Rattle.demands.proofs.Laws.{Laws, left-by}
 
-pub factory-laws : Laws factory
+pub factory-laws : Laws factoryEntry
 factory-laws = record {
   causes = λ l s. factoryCauses s;
   after = λ l s. births.factory;
@@ -32,10 +32,10 @@ factory-laws = record {
   room = λ l s b g n. omega arith;
   same = λ l s t bs bt same. (ap (λ (n : ℕ). cause (not (eqb n recordSize)) BadRecord) (same .long), λ h. tt);
   alike = λ l s t bs bt same n h. (refl, refl, same-own (bytesOf births.factory));
-  hushed = λ e. absurd (true≢false e);
+  quiet = λ e. absurd (true≢false e);
   tries = λ e. absurd (true≢false e);
 }
 
 pub factory-done : (s : List ℕ) → length s ≡ recordSize → factoryCall s ≡ done births.factory [] 0 []
 unfolding factory-laws
-factory-done s h = left-by factory factory-laws tt s ((λ n. n h), tt)
+factory-done s h = left-by factoryEntry factory-laws tt s ((λ n. n h), tt)

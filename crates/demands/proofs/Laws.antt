@@ -18,8 +18,8 @@ use Rattle.call.specs.Outcome.{Outcome, refused, done, Cause, inOrder}
 use Rattle.call.specs.Ending.{NoReason, Ends}
 use Rattle.call.proofs.InOrder.{None, SameCauses, DecidesAll, in-order, in-order-both, ends, none-left, no-reason}
 use Rattle.demands.specs.Premise.{SameButCode, Alike}
-use Rattle.demands.specs.Calls.{Call}
-use Rattle.demands.specs.Ending.{Leaving}
+use Rattle.demands.specs.CallList.{Call}
+use Rattle.demands.specs.EndsProperly.{Leaving}
 use Rattle.demands.proofs.Tests.{not-bad}
 
 pub record Laws (c : Call) : Type 1 where
@@ -33,14 +33,14 @@ pub record Laws (c : Call) : Type 1 where
   pub decides : (l : c .Lent) (s : List ℕ) → DecidesAll (causes l s) (c .reasons l s)
   -- if none applies, the record has its size, is left in range, and the output has room
   pub size : (l : c .Lent) (s : List ℕ) → None (causes l s) → length s ≡ recordSize
-  pub keeps : (l : c .Lent) (s : List ℕ) → Bytes s → c .Given l → None (causes l s) → InRange (after l s)
-  pub room : (l : c .Lent) (s : List ℕ) → Bytes s → c .Given l → None (causes l s) → length (out l s) ≤ length (c .output l)
+  pub keeps : (l : c .Lent) (s : List ℕ) → Bytes s → c .OfBytes l → None (causes l s) → InRange (after l s)
+  pub room : (l : c .Lent) (s : List ℕ) → Bytes s → c .OfBytes l → None (causes l s) → length (out l s) ≤ length (c .output l)
   -- another code makes no difference to the causes, nor, where no command carries either, to what is left
   pub same : (l : c .Lent) (s t : List ℕ) → Bytes s → Bytes t → SameButCode s t → SameCauses (causes l s) (causes l t)
-  pub alike : (l : c .Lent) (s t : List ℕ) → Bytes s → Bytes t → SameButCode s t → None (causes l s) → c .Hushed l s t
+  pub alike : (l : c .Lent) (s t : List ℕ) → Bytes s → Bytes t → SameButCode s t → None (causes l s) → c .Quiet l s t
       → Alike (done (after l s) (out l s) (skips l s) (c .output l)) (done (after l t) (out l t) (skips l t) (c .output l))
   -- with three wrong tries used nothing is compared, and they stay used
-  pub hushed : c .resets ≡ false → (l : c .Lent) (s t : List ℕ) → 3 ≤ recordOf s .tries → c .Hushed l s t
+  pub quiet : c .resets ≡ false → (l : c .Lent) (s t : List ℕ) → 3 ≤ recordOf s .tries → c .Quiet l s t
   pub tries : c .resets ≡ false → (l : c .Lent) (s : List ℕ) → 3 ≤ recordOf s .tries → 3 ≤ after l s .tries
 
 -- the tries of a record, in its bytes
@@ -62,7 +62,7 @@ module _ (c : Call) (w : Laws c) (l : c .Lent) (s : List ℕ) where
   pub left-by : NoReason (c .reasons l s) → c .outcome l s ≡ finished
   left-by n = w .chain l s ∙ none-left (w .causes l s) s o finished (no-reason (w .causes l s) (c .reasons l s) (w .decides l s) n)
 
-  pub leaves-by : Bytes s → c .Given l → Leaving s o (c .outcome l s)
+  pub leaves-by : Bytes s → c .OfBytes l → Leaving s o (c .outcome l s)
   leaves-by b g = rw (w .chain l s) (in-order (Leaving s o) (w .causes l s) s o finished stays left)
     where
       stays : (why : Ending) → Leaving s o (refused why s o)
@@ -75,10 +75,10 @@ module _ (c : Call) (w : Laws c) (l : c .Lent) (s : List ℕ) where
         well-formed = λ h. not-bad (bytesOf (w .after l s)) (well-formed (w .after l s) (w .keeps l s b g n));
       }
 
-  pub bytes-by : Bytes s → c .Given l → Bytes (c .outcome l s .kept)
+  pub bytes-by : Bytes s → c .OfBytes l → Bytes (c .outcome l s .kept)
   bytes-by b g = rw (w .chain l s) (in-order (λ z. Bytes (z .kept)) (w .causes l s) s o finished (λ why. b) (λ n. bytes-bytes (w .after l s) (w .keeps l s b g n)))
 
-  pub alike-by : (t : List ℕ) → Bytes s → Bytes t → SameButCode s t → c .Hushed l s t → Alike (c .outcome l s) (c .outcome l t)
+  pub alike-by : (t : List ℕ) → Bytes s → Bytes t → SameButCode s t → c .Quiet l s t → Alike (c .outcome l s) (c .outcome l t)
   alike-by t bs bt same h =
       rw (w .chain l s, w .chain l t)
       (in-order-both Alike s t o finished (done (w .after l t) (w .out l t) (w .skips l t) o) (λ why. (refl, refl, same)) (w .causes l s) (w .causes l t) (w .same l s t bs bt same)
@@ -88,8 +88,8 @@ module _ (c : Call) (w : Laws c) (l : c .Lent) (s : List ℕ) where
     three : 3 ≤ recordOf s .tries
     three = rw (tries-at s) used
 
-    pub hushed-by : (t : List ℕ) → c .Hushed l s t
-    hushed-by t = w .hushed keeps-tries l s t three
+    pub quiet-by : (t : List ℕ) → c .Quiet l s t
+    quiet-by t = w .quiet keeps-tries l s t three
 
     pub used-by : 3 ≤ getD (c .outcome l s .kept) atTries 0
     used-by =

@@ -9,8 +9,8 @@ pub mod SamplesLaws
 pub mod AllLaws
 pub mod Examples
 pub mod Unique
-pub mod Ending
-pub mod Carried
+pub mod EndsProperly
+pub mod AsListed
 pub mod Boards
 pub mod Secrecy
 pub mod Demands

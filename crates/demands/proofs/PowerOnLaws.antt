@@ -13,7 +13,7 @@ use Rattle.call.specs.Outcome.{done}
 use Rattle.board.specs.Calls.{powerOnCauses, powerOnCall}
 use Rattle.board.proofs.Unfolded.{power-on-by}
 use Rattle.demands.specs.Premise.{Alike}
-use Rattle.demands.specs.Calls.{Malformed, power-on}
+use Rattle.demands.specs.CallList.{Malformed, powerOnEntry}
 use Rattle.demands.proofs.Tests.{formed, malformed}
 use Rattle.demands.proofs.OtherCode.{code-of, other-record, well-size, same-form, done-alike}
 use Rattle.demands.proofs.Laws.{Laws, left-by}
@@ -22,7 +22,7 @@ on-alike : (r : Record) (k : ℕ) → Alike (done (poweredOn r) [] 0 []) (done (
 unfolding poweredOn withCode
 on-alike r k = done-alike (poweredOn r) k [] 0 []
 
-pub power-on-laws : Laws power-on
+pub power-on-laws : Laws powerOnEntry
 power-on-laws = record {
   causes = λ l s. powerOnCauses s;
   after = λ l s. poweredOn (recordOf s);
@@ -35,10 +35,10 @@ power-on-laws = record {
   room = λ l s b g n. omega arith;
   same = λ l s t bs bt same. (same-form s t bs bt same, λ h. tt);
   alike = λ l s t bs bt same n h. rw (other-record s t bs bt same (formed s (n .0))) (on-alike (recordOf s) (code-of s t bs bt same (formed s (n .0))));
-  hushed = λ e. absurd (true≢false e);
+  quiet = λ e. absurd (true≢false e);
   tries = λ e. absurd (true≢false e);
 }
 
 pub power-on-done : (s : List ℕ) → ¬ Malformed s → powerOnCall s ≡ done (poweredOn (recordOf s)) [] 0 []
 unfolding power-on-laws
-power-on-done s h = left-by power-on power-on-laws tt s (h, tt)
+power-on-done s h = left-by powerOnEntry power-on-laws tt s (h, tt)

@@ -10,9 +10,9 @@ use Rattle.wire.specs.Replies.{Reply}
 use Rattle.wire.specs.Run.{runs}
 use Rattle.wire.proofs.RunLaws as wire
 use Rattle.record.specs.Record.{Record, withCode}
-use Rattle.command.specs.Step.{stepOf, answer}
+use Rattle.command.specs.Step.{stepOf, onPiece}
 use Rattle.command.proofs.Secrecy.{step-same, used-up, tries-stay}
-use Rattle.demands.specs.Premise.{Quiet, QuietRun}
+use Rattle.demands.specs.Premise.{QuietPiece, QuietRun}
 
 -- the second board is the first but for the code
 abbrev pub Agree : Record → Record → Type 0
@@ -22,7 +22,7 @@ agree : (r q : Record) (k : ℕ) → q ≡ withCode r k → Agree r q
 unfolding withCode
 agree r q k e = e ∙ ap (withCode r) (sym (ap (λ (x : Record). x .code) e))
 
-piece-same : (r q : Record) (p : Piece) → Agree r q → Quiet r q p → (answer r p .said ≡ answer q p .said) × Agree (answer r p .state) (answer q p .state)
+piece-same : (r q : Record) (p : Piece) → Agree r q → QuietPiece r q p → (onPiece r p .said ≡ onPiece q p .said) × Agree (onPiece r p .state) (onPiece q p .state)
 piece-same r q (Whole f) e h =
     let x = step-same r (q .code) f h in
     let y : stepOf q f .reply ≡ stepOf r f .reply = ap (λ (b : Record). stepOf b f .reply) e ∙ x .0 in
@@ -30,13 +30,13 @@ piece-same r q (Whole f) e h =
     (ap (λ (a : Reply). a ∷ []) (sym y), agree (stepOf r f .after) (stepOf q f .after) (q .code) z)
 piece-same r q (Broken head) e h = (refl, e)
 
-quiet-pieces : (r q : Record) (ps : List Piece) → QuietRun r q ps → wire.AllQuiet Record Reply serial answer Agree Quiet piece-same r q ps
+quiet-pieces : (r q : Record) (ps : List Piece) → QuietRun r q ps → wire.AllQuiet Record Reply serial onPiece Agree QuietPiece piece-same r q ps
 unfolding wire.AllQuiet
 quiet-pieces r q [] h = tt
-quiet-pieces r q (p ∷ ps) h = (h .0, quiet-pieces (answer r p .state) (answer q p .state) ps (h .1))
+quiet-pieces r q (p ∷ ps) h = (h .0, quiet-pieces (onPiece r p .state) (onPiece q p .state) ps (h .1))
 
-pub run-same : (r q : Record) (ps : List Piece) → Agree r q → QuietRun r q ps → (runs answer r ps .said ≡ runs answer q ps .said) × Agree (runs answer r ps .state) (runs answer q ps .state)
-run-same r q ps e h = wire.runs-agree Record Reply serial answer Agree Quiet piece-same r q ps e (quiet-pieces r q ps h)
+pub run-same : (r q : Record) (ps : List Piece) → Agree r q → QuietRun r q ps → (runs onPiece r ps .said ≡ runs onPiece q ps .said) × Agree (runs onPiece r ps .state) (runs onPiece q ps .state)
+run-same r q ps e h = wire.runs-agree Record Reply serial onPiece Agree QuietPiece piece-same r q ps e (quiet-pieces r q ps h)
 
 -- ---- three wrong tries used
 
@@ -45,7 +45,7 @@ quiet-used r q [] h = tt
 quiet-used r q (Whole f ∷ ps) h = ((λ e. absurd (true≢false (sym e ∙ used-up r f h))), quiet-used (stepOf r f .after) (stepOf q f .after) ps (le-trans h (tries-stay r f)))
 quiet-used r q (Broken head ∷ ps) h = (tt, quiet-used r q ps h)
 
-pub run-tries : (r : Record) (ps : List Piece) → 3 ≤ r .tries → 3 ≤ runs answer r ps .state .tries
+pub run-tries : (r : Record) (ps : List Piece) → 3 ≤ r .tries → 3 ≤ runs onPiece r ps .state .tries
 unfolding runs
 run-tries r [] h = h
 run-tries r (Whole f ∷ ps) h = run-tries (stepOf r f .after) ps (le-trans h (tries-stay r f))

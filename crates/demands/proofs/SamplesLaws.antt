@@ -14,23 +14,23 @@ use Rattle.record.proofs.RoundTrip.{in-range}
 use Rattle.record.proofs.Reading.{reading-in}
 use Rattle.call.specs.declared.Ending.the-variants.{BadLength, NoRoom, NotFinite}
 use Rattle.call.specs.Ending.{NoReason}
-use Rattle.board.specs.Calls.{sampleSize, frameSize, measured, read, samplesCauses, samplesCall}
+use Rattle.board.specs.Calls.{sampleSize, frameSize, measuringFrame, afterSample, samplesCauses, samplesCall}
 use Rattle.board.proofs.Unfolded.{samples-by}
 use Rattle.demands.specs.Premise.{Alike}
-use Rattle.demands.specs.Calls.{samplesReasons, samples}
+use Rattle.demands.specs.CallList.{samplesReasons, samplesEntry}
 use Rattle.demands.proofs.Tests.{formed, malformed, below, other, stray}
 use Rattle.demands.proofs.OtherCode.{code-of, other-record, well-size, same-form, done-alike}
 use Rattle.demands.proofs.Laws.{Laws, left-by}
 
 -- what is sent
 abbrev sent : Record → List ℕ → List ℕ
-sent r sample = cond (r .flags .sending) (measured channels sample) []
+sent r sample = cond (r .flags .sending) (measuringFrame channels sample) []
 
-short : (t : Bool) (sample o : List ℕ) → frameSize ≤ length o → length (cond t (measured channels sample) []) ≤ length o
+short : (t : Bool) (sample o : List ℕ) → frameSize ≤ length o → length (cond t (measuringFrame channels sample) []) ≤ length o
 short true sample o h = h
 short false sample o h = omega arith
 
-read-alike : (r : Record) (k : ℕ) (sample o : List ℕ) → Alike (read r sample o) (read (withCode r k) sample o)
+read-alike : (r : Record) (k : ℕ) (sample o : List ℕ) → Alike (afterSample r sample o) (afterSample (withCode r k) sample o)
 unfolding readingOf withFlags withPairs withCode
 read-alike r k sample o = done-alike (readingOf r sample) k (sent r sample) 0 o
 
@@ -38,7 +38,7 @@ reading-tries : (r : Record) (sample : List ℕ) → readingOf r sample .tries �
 unfolding readingOf withFlags withPairs
 reading-tries r sample = refl
 
-pub samples-laws : Laws samples
+pub samples-laws : Laws samplesEntry
 samples-laws = record {
   causes = λ l s. samplesCauses s (l .input) (l .output);
   after = λ l s. readingOf (recordOf s) (l .input);
@@ -54,10 +54,10 @@ samples-laws = record {
   room = λ l s b g n. short (recordOf s .flags .sending) (l .input) (l .output) (ltb-false (length (l .output)) frameSize (n .1 .1 .0));
   same = λ l s t bs bt same. (same-form s t bs bt same, λ h. (refl, λ i. (refl, λ j. (refl, λ k. tt))));
   alike = λ l s t bs bt same n h. rw (other-record s t bs bt same (formed s (n .0))) (read-alike (recordOf s) (code-of s t bs bt same (formed s (n .0))) (l .input) (l .output));
-  hushed = λ e l s t h. tt;
+  quiet = λ e l s t h. tt;
   tries = λ e l s h. rw (reading-tries (recordOf s) (l .input)) h;
 }
 
-pub samples-done : (s sample o : List ℕ) → NoReason (samplesReasons s sample o) → samplesCall s sample o ≡ read (recordOf s) sample o
+pub samples-done : (s sample o : List ℕ) → NoReason (samplesReasons s sample o) → samplesCall s sample o ≡ afterSample (recordOf s) sample o
 unfolding samples-laws
-samples-done s sample o n = left-by samples samples-laws (record { input = sample; output = o }) s n
+samples-done s sample o n = left-by samplesEntry samples-laws (record { input = sample; output = o }) s n

@@ -13,11 +13,11 @@ use Rattle.record.specs.Births.{factory}
 use Rattle.command.specs.Compare.{compares}
 use Rattle.command.proofs.Compare.{compares-exactly}
 use Rattle.board.specs.Calls.{bytesCall}
-use Rattle.demands.specs.Premise.{Compared}
-use Rattle.demands.specs.Calls.{Made, callOf, outcomeOf}
-use Rattle.demands.specs.Secrecy.{thirdCode, AllHushed, OneCall, NothingTold, NoReset, NothingToldUsedUp, PremiseMet, PremiseNeeded}
+use Rattle.demands.specs.Premise.{ComparedExactly}
+use Rattle.demands.specs.CallList.{Made, callOf, outcomeOf}
+use Rattle.demands.specs.Secrecy.{thirdCode, AllQuiet, OneCall, NothingTold, NoReset, NothingToldUsedUp, PremiseMet, PremiseNeeded}
 use Rattle.demands.proofs.OtherCode.{code-only}
-use Rattle.demands.proofs.Laws.{bytes-by, alike-by, hushed-by, used-by}
+use Rattle.demands.proofs.Laws.{bytes-by, alike-by, quiet-by, used-by}
 use Rattle.demands.proofs.AllLaws.{laws-of}
 
 pub one-call : OneCall
@@ -33,21 +33,21 @@ nothing-told (m ∷ calls) s t bs bt g same h =
 
 -- ---- three wrong tries used
 
-all-hushed : (calls : List Made) (s t : List ℕ) → NoReset calls → 3 ≤ getD s atTries 0 → AllHushed s t calls
-all-hushed [] s t n h = tt
-all-hushed (m ∷ calls) s t n h =
+all-quiet : (calls : List Made) (s t : List ℕ) → NoReset calls → 3 ≤ getD s atTries 0 → AllQuiet s t calls
+all-quiet [] s t n h = tt
+all-quiet (m ∷ calls) s t n h =
     let c = callOf (m .name) in
     let w = laws-of (m .name) in
-    (hushed-by c w (m .lent) s (n .0) h t, all-hushed calls (outcomeOf m s .kept) (outcomeOf m t .kept) (n .1) (used-by c w (m .lent) s (n .0) h))
+    (quiet-by c w (m .lent) s (n .0) h t, all-quiet calls (outcomeOf m s .kept) (outcomeOf m t .kept) (n .1) (used-by c w (m .lent) s (n .0) h))
 
 pub nothing-told-used-up : NothingToldUsedUp
-nothing-told-used-up calls s t bs bt g n same h = nothing-told calls s t bs bt g same (all-hushed calls s t n (omega arith))
+nothing-told-used-up calls s t bs bt g n same h = nothing-told calls s t bs bt g same (all-quiet calls s t n (omega arith))
 
 -- ---- what "compared" means, and that the premise can be met and is needed
 
-pub compared : Compared
+pub compared : ComparedExactly
 unfolding compares withCode
-compared = record { exactly = compares-exactly; alike = λ r k f. refl }
+compared = record { exactly = compares-exactly; any-code = λ r k f. refl }
 
 third-bytes : Bytes thirdCode
 third-bytes zero = omega arith
@@ -67,7 +67,7 @@ premise-met = record {
   differ = λ e. let z : _≡_ {A = ℕ} 0x55 0x01 = ap (λ (s : List ℕ). getD s atCode 0) e in omega arith;
   done = refl;
   compared = refl;
-  given = (third-bytes, ((λ i. omega arith), tt));
+  of-bytes = (third-bytes, ((λ i. omega arith), tt));
   quiet = (λ e. ((λ c. ((λ z. omega arith), λ z. omega arith)), tt), (tt, tt));
   no-reset = (refl, (refl, tt));
 }

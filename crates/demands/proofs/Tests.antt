@@ -18,7 +18,7 @@ use Rattle.call.specs.declared.Ending.the-variants.{BadRecord}
 use Rattle.call.specs.Outcome.{resultOf, bad, cause}
 use Rattle.call.specs.Ending.{reason}
 use Rattle.call.proofs.InOrder.{Decides}
-use Rattle.demands.specs.Calls.{Malformed, Stray}
+use Rattle.demands.specs.CallList.{Malformed, Stray}
 
 pub not-bad : (s : List ℕ) → wellFormed s ≡ true → ¬ Malformed s
 not-bad s w e = true≢false (sym w ∙ e)

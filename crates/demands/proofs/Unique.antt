@@ -2,7 +2,7 @@
 use mathlib.Core.Path.{refl, sym, _∙_}
 use Rattle.call.specs.Outcome.{Outcome, Allows}
 use Rattle.call.proofs.InOrder.{allowed-is}
-use Rattle.demands.specs.Calls.{outcomeOf}
+use Rattle.demands.specs.CallList.{outcomeOf}
 use Rattle.demands.specs.Unique.{One, Unique}
 
 allowed-own : (z : Outcome) → Allows z z

@@ -16,8 +16,8 @@ abbrev pub Board : Type 0
 Board = List ℕ → List ℕ → List ℕ → Outcome
 
 -- the bytes f are one whole frame
-abbrev pub Frame : List ℕ → Type 0
-Frame f = cut serial f ≡ record { pieces = Whole f ∷ []; skipped = 0; waiting = [] }
+abbrev pub OneFrame : List ℕ → Type 0
+OneFrame f = cut serial f ≡ record { pieces = Whole f ∷ []; skipped = 0; waiting = [] }
 
 module _ (b : Board) where
   -- its outcomes are such as the contract of the bytes call allows
@@ -26,11 +26,11 @@ module _ (b : Board) where
 
   -- a frame on a record without pending bytes gets no number 0, or no status 00
   abbrev pub RefusesAll : Type 0
-  RefusesAll = (s f o : List ℕ) → Frame f → recordOf s .pending ≡ [] → b s f o .answer .result ≡ 0 → getD (b s f o .output) 2 0 ≢ 0x00
+  RefusesAll = (s f o : List ℕ) → OneFrame f → recordOf s .pending ≡ [] → b s f o .answer .result ≡ 0 → getD (b s f o .output) 2 0 ≢ 0x00
 
   -- it says AA 50 00 85 to every frame
   abbrev pub SaysDone : Type 0
-  SaysDone = (s f o : List ℕ) → Frame f → recordOf s .pending ≡ [] → b s f o .answer .result ≡ 0
+  SaysDone = (s f o : List ℕ) → OneFrame f → recordOf s .pending ≡ [] → b s f o .answer .result ≡ 0
       → take (b s f o .answer .written) (b s f o .output) ≡ 0xAA ∷ 0x50 ∷ 0x00 ∷ 0x85 ∷ []
 
   -- it leaves every setting as it was
@@ -39,7 +39,7 @@ module _ (b : Board) where
 
   -- a second frame, replied to or not, changes nothing more
   abbrev pub FirstOnly : Type 0
-  FirstOnly = (s f g o : List ℕ) → Frame f → Frame g → recordOf s .pending ≡ [] → b s f o .answer .result ≡ 0 → b s (f ++ g) o .answer .result ≡ 0 → b s (f ++ g) o .kept ≡ b s f o .kept
+  FirstOnly = (s f g o : List ℕ) → OneFrame f → OneFrame g → recordOf s .pending ≡ [] → b s f o .answer .result ≡ 0 → b s (f ++ g) o .answer .result ≡ 0 → b s (f ++ g) o .kept ≡ b s f o .kept
 
   -- a call that is done may give a skipped count that is not the cut's
   abbrev pub InventsCount : Type 0

@@ -1,11 +1,11 @@
 -- The whole claim on one page: what each field says stands in the module that it comes from.
 use Rattle.board.proofs.Exported.{AllExported}
 use Rattle.demands.specs.Unique.{Unique}
-use Rattle.demands.specs.Ending.{EndsProperly}
-use Rattle.demands.specs.Carried.{AnswersAsListed}
+use Rattle.demands.specs.EndsProperly.{EndsProperly}
+use Rattle.demands.specs.AsListed.{AnswersAsListed}
 use Rattle.demands.specs.Boards.{WrongShutOut, KindsExist}
-use Rattle.demands.specs.Examples.{starred, Holds}
-use Rattle.demands.specs.Premise.{Compared}
+use Rattle.demands.specs.Examples.{starred, ExamplesHold}
+use Rattle.demands.specs.Premise.{ComparedExactly}
 use Rattle.demands.specs.Secrecy.{OneCall, NothingTold, NothingToldUsedUp, PremiseMet, PremiseNeeded}
 
 pub record Demands : Type 1 where
@@ -18,9 +18,9 @@ pub record Demands : Type 1 where
   pub answers : AnswersAsListed
   pub shut-out : WrongShutOut
   pub kinds : KindsExist
-  pub examples : Holds starred
+  pub examples : ExamplesHold starred
   -- 3: nothing is told of the code
-  pub compared : Compared
+  pub compared : ComparedExactly
   pub one-call : OneCall
   pub nothing-told : NothingTold
   pub used-up : NothingToldUsedUp

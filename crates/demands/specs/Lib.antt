@@ -1,9 +1,9 @@
 pub mod Premise
-pub mod Calls
+pub mod CallList
 pub mod Examples
 pub mod Unique
-pub mod Ending
-pub mod Carried
+pub mod EndsProperly
+pub mod AsListed
 pub mod Boards
 pub mod Secrecy
 pub mod Demands

@@ -13,8 +13,8 @@ use Rattle.command.specs.declared.Listed.the-variants.{Built}
 use Rattle.command.specs.declared.Counted.the-variants.{Right}
 use Rattle.command.specs.declared.Command.the-variants.{Unlock}
 use Rattle.command.specs.Tables.{listedOf, countedOf}
-use Rattle.command.specs.Step.{answer}
-use Rattle.command.specs.Compare.{compares, carried}
+use Rattle.command.specs.Step.{onPiece}
+use Rattle.command.specs.Compare.{compares, codeIn}
 use Rattle.call.specs.Outcome.{Outcome}
 
 -- two records, well formed or not: as long, and the same at every place but 5 to 8, where the code stands
@@ -28,17 +28,17 @@ abbrev pub Alike : Outcome → Outcome → Type 0
 Alike z w = (z .answer ≡ w .answer) × (z .output ≡ w .output) × SameButCode (z .kept) (w .kept)
 
 -- "compared": a rightly built unlock command, configuration mode closed, fewer than three wrong tries used; another code makes no difference to it
-pub record Compared : Type 0 where
+pub record ComparedExactly : Type 0 where
   pub exactly : (r : Record) (f : List ℕ)
       → (compares r f ≡ true) ↔ ((listedOf (headOf f) (numberOf f) ≡ Built Unlock) × (countedOf Unlock (length (paramsOf f)) ≡ Right) × (r .flags .opened ≡ false) × (r .tries < 3))
-  pub alike : (r : Record) (k : ℕ) (f : List ℕ) → compares (withCode r k) f ≡ compares r f
+  pub any-code : (r : Record) (k : ℕ) (f : List ℕ) → compares (withCode r k) f ≡ compares r f
 
 -- a piece that is compared carries the code of neither board
-abbrev pub Quiet : Record → Record → Piece → Type 0
-Quiet r q (Whole f) = compares r f ≡ true → (carried f ≢ r .code) × (carried f ≢ q .code)
-Quiet r q (Broken head) = Unit {0}
+abbrev pub QuietPiece : Record → Record → Piece → Type 0
+QuietPiece r q (Whole f) = compares r f ≡ true → (codeIn f ≢ r .code) × (codeIn f ≢ q .code)
+QuietPiece r q (Broken head) = Unit {0}
 
 -- and so on, each board in the state that the piece before it left
 abbrev pub QuietRun : Record → Record → List Piece → Type 0
 QuietRun r q [] = Unit {0}
-QuietRun r q (p ∷ ps) = Quiet r q p × QuietRun (answer r p .state) (answer q p .state) ps
+QuietRun r q (p ∷ ps) = QuietPiece r q p × QuietRun (onPiece r p .state) (onPiece q p .state) ps

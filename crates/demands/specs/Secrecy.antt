@@ -12,20 +12,20 @@ use Rattle.record.specs.Births.{factory}
 use Rattle.command.specs.Compare.{compares}
 use Rattle.board.specs.Calls.{bytesCall}
 use Rattle.demands.specs.Premise.{SameButCode, Alike}
-use Rattle.demands.specs.Calls.{Receive, Sample, callOf, Made, outcomeOf}
+use Rattle.demands.specs.CallList.{BytesIn, SamplesIn, callOf, Made, outcomeOf}
 use Rattle.demands.specs.Examples.{rightCode}
 
 -- ---- calls made one after the other
 
 -- their inputs are lists of bytes
-abbrev pub AllGiven : List Made → Type 0
-AllGiven [] = Unit {0}
-AllGiven (m ∷ calls) = callOf (m .name) .Given (m .lent) × AllGiven calls
+abbrev pub AllOfBytes : List Made → Type 0
+AllOfBytes [] = Unit {0}
+AllOfBytes (m ∷ calls) = callOf (m .name) .OfBytes (m .lent) × AllOfBytes calls
 
 -- no compared unlock command carries either present code
-abbrev pub AllHushed : List ℕ → List ℕ → List Made → Type 0
-AllHushed s t [] = Unit {0}
-AllHushed s t (m ∷ calls) = callOf (m .name) .Hushed (m .lent) s t × AllHushed (outcomeOf m s .kept) (outcomeOf m t .kept) calls
+abbrev pub AllQuiet : List ℕ → List ℕ → List Made → Type 0
+AllQuiet s t [] = Unit {0}
+AllQuiet s t (m ∷ calls) = callOf (m .name) .Quiet (m .lent) s t × AllQuiet (outcomeOf m s .kept) (outcomeOf m t .kept) calls
 
 -- the same answers and output bytes, and records that differ in nothing but perhaps the code, after every call
 abbrev pub AllAlike : List ℕ → List ℕ → List Made → Type 0
@@ -34,11 +34,11 @@ AllAlike s t (m ∷ calls) = Alike (outcomeOf m s) (outcomeOf m t) × AllAlike (
 
 -- One call in which no compared unlock command carries either present code tells nothing,
 abbrev pub OneCall : Type 0
-OneCall = (m : Made) (s t : List ℕ) → Bytes s → Bytes t → SameButCode s t → callOf (m .name) .Hushed (m .lent) s t → Alike (outcomeOf m s) (outcomeOf m t)
+OneCall = (m : Made) (s t : List ℕ) → Bytes s → Bytes t → SameButCode s t → callOf (m .name) .Quiet (m .lent) s t → Alike (outcomeOf m s) (outcomeOf m t)
 
 -- and so does any list of calls of all kinds.
 abbrev pub NothingTold : Type 0
-NothingTold = (calls : List Made) (s t : List ℕ) → Bytes s → Bytes t → AllGiven calls → SameButCode s t → AllHushed s t calls → AllAlike s t calls
+NothingTold = (calls : List Made) (s t : List ℕ) → Bytes s → Bytes t → AllOfBytes calls → SameButCode s t → AllQuiet s t calls → AllAlike s t calls
 
 -- ---- three wrong tries used
 
@@ -49,7 +49,7 @@ NoReset (m ∷ calls) = (callOf (m .name) .resets ≡ false) × NoReset calls
 
 -- With three wrong tries used this holds whatever codes are sent, until power-on or factory.
 abbrev pub NothingToldUsedUp : Type 0
-NothingToldUsedUp = (calls : List Made) (s t : List ℕ) → Bytes s → Bytes t → AllGiven calls → NoReset calls → SameButCode s t → getD s atTries 0 ≡ 3 → AllAlike s t calls
+NothingToldUsedUp = (calls : List Made) (s t : List ℕ) → Bytes s → Bytes t → AllOfBytes calls → NoReset calls → SameButCode s t → getD s atTries 0 ≡ 3 → AllAlike s t calls
 
 -- ---- the premise can be met, and is needed
 
@@ -68,7 +68,7 @@ room = replicate 38 0x00
 
 -- the command sent, and a reading
 abbrev pub harmless : List Made
-harmless = record { name = Receive; lent = record { input = thirdCode; output = room } } ∷ record { name = Sample; lent = record { input = []; output = [] } } ∷ []
+harmless = record { name = BytesIn; lent = record { input = thirdCode; output = room } } ∷ record { name = SamplesIn; lent = record { input = []; output = [] } } ∷ []
 
 -- The boards have different codes, the command is compared, the premise holds, and neither of the two calls gives new tries.
 pub record PremiseMet : Type 0 where
@@ -76,8 +76,8 @@ pub record PremiseMet : Type 0 where
   pub differ : ours ≢ theirs
   pub done : bytesCall ours thirdCode room .answer .result ≡ 0
   pub compared : compares (recordOf ours) thirdCode ≡ true
-  pub given : AllGiven harmless
-  pub quiet : AllHushed ours theirs harmless
+  pub of-bytes : AllOfBytes harmless
+  pub quiet : AllQuiet ours theirs harmless
   pub no-reset : NoReset harmless
 
 -- The code of one of them tells them apart.

@@ -3,7 +3,7 @@ use Prim.Native.Nat.{ℕ}
 use mathlib.Core.Path.{_≡_}
 use mathlib.Core.List.{List}
 use Rattle.call.specs.Outcome.{Outcome, Allows}
-use Rattle.demands.specs.Calls.{Made, outcomeOf}
+use Rattle.demands.specs.CallList.{Made, outcomeOf}
 
 -- it allows an outcome, and any two that it allows are equal
 pub record One (z : Outcome) : Type 0 where

@@ -2,7 +2,7 @@
 use Prim.Native.Nat.{ℕ}
 use mathlib.Core.Path.{_≡_, subst⁻¹}
 use mathlib.Core.List.{List}
-use Rattle.record.specs.Place.{Turns}
+use Rattle.record.specs.InPlace.{Turns}
 use Rattle.command.specs.declared.Command.{Command}
 use Rattle.command.specs.declared.Refusal.{Refusal}
 use Rattle.command.specs.Effects.{effectOf}

@@ -2,7 +2,7 @@
 ghost use mathlib.Core.Path.{_≡_};
 ghost use lib.ListN.{length};
 ghost use Rattle.wire.specs.declared.Range.the-variants.{Fits};
-ghost use Rattle.record.specs.Place.{Sound, Turns};
+ghost use Rattle.record.specs.InPlace.{Sound, Turns};
 ghost use Rattle.command.specs.declared.Counted.the-variants.{Right};
 ghost use Rattle.command.specs.Tables.{countedOf, rangeOf};
 ghost use Rattle.command.specs.Effects.{effectOf};
@@ -29,7 +29,7 @@ use settings::set_power;
 use settings::set_step;
 use settings::switch_output;
 
-pub fn carry_out(rec: &mut [u8], c: Command, p: &[u8])
+pub fn take_effect(rec: &mut [u8], c: Command, p: &[u8])
     requires { ⌜ Sound (now rec) ⌝ }
     requires { ⌜ countedOf c (length (now p)) ≡ Right ⌝ }
     requires { ⌜ rangeOf c (now p) ≡ Fits ⌝ }

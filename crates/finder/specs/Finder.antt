@@ -9,13 +9,13 @@ use lib.Dec.{eqb}
 use Rattle.wire.specs.Frames.{Heads, look, Wait, Take, Tear, Passed}
 use Rattle.wire.specs.Serial.{Noise}
 use Rattle.finder.specs.declared.Seen.{Seen}
-use Rattle.finder.specs.declared.Seen.the-variants.{Frame, Torn, Nothing}
+use Rattle.finder.specs.declared.Seen.the-variants.{Frame, Torn, NoMore}
 use Rattle.finder.specs.declared.Found.{Found}
 
 -- none of n bytes from a place on is AA
-unfoldable pub quiet : ℕ → List ℕ → ℕ → Bool
-quiet zero s at = true
-quiet (suc n) s at = quiet n s at && not (eqb (getD s (at + n) 0) 0xAA)
+unfoldable pub noAA : ℕ → List ℕ → ℕ → Bool
+noAA zero s at = true
+noAA (suc n) s at = noAA n s at && not (eqb (getD s (at + n) 0) 0xAA)
 
 -- the next AA, or the end of the search
 pub record Reaches (l : List ℕ) (from until at : ℕ) : Type 0 where
@@ -24,11 +24,11 @@ pub record Reaches (l : List ℕ) (from until at : ℕ) : Type 0 where
   pub stops : (at ≡ until) ⊎ (getD l at 0 ≡ 0xAA)
 
 -- what stands at the place: a frame, a broken head, or nothing, which is the end of the search or a candidate that waits
-abbrev pub Shows : Heads → Seen → List ℕ → ℕ → ℕ → Type 0
-Shows h (Frame n) l at until = (at < until) × (look h (drop at l) ≡ Take n)
-Shows h Torn l at until = (at < until) × (look h (drop at l) ≡ Tear)
-Shows h Nothing l at until = (at ≡ until) ⊎ ((at < until) × (look h (drop at l) ≡ Wait))
+abbrev pub StandsAt : Heads → Seen → List ℕ → ℕ → ℕ → Type 0
+StandsAt h (Frame n) l at until = (at < until) × (look h (drop at l) ≡ Take n)
+StandsAt h Torn l at until = (at < until) × (look h (drop at l) ≡ Tear)
+StandsAt h NoMore l at until = (at ≡ until) ⊎ ((at < until) × (look h (drop at l) ≡ Wait))
 
 pub record Finds (h : Heads) (l : List ℕ) (from until : ℕ) (r : Found) : Type 0 where
   pub passed : Passed h l from (r .at)
-  pub shows : Shows h (r .seen) l (r .at) until
+  pub stands : StandsAt h (r .seen) l (r .at) until

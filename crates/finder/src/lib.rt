@@ -5,7 +5,7 @@ ghost use Prim.Native.Nat.{_+_, _≤_, _<_};
 ghost use lib.ListN.{length};
 ghost use Rattle.wire.specs.Sizes.{streamMost};
 ghost use Rattle.wire.specs.Serial.{headsOf, Noise};
-ghost use Rattle.finder.specs.Finder.{quiet, Reaches, Finds};
+ghost use Rattle.finder.specs.Finder.{noAA, Reaches, Finds};
 use wire::Announced;
 use wire::Line;
 use wire::heads::announced_by;
@@ -14,7 +14,7 @@ use wire::heads::announced_by;
 pub enum Seen {
     Frame(usize),
     Torn,
-    Nothing,
+    NoMore,
 }
 
 pub struct Found {
@@ -25,7 +25,7 @@ pub struct Found {
 // Whether none of eight bytes is AA.
 fn quiet_eight(s: &[u8], at: usize) -> bool
     requires { ⌜ at + 8 ≤ length (now s) ⌝ }
-    ensures { λ r. ⌜ r ≡ quiet 8 (now (s .entry)) at ⌝ }
+    ensures { λ r. ⌜ r ≡ noAA 8 (now (s .entry)) at ⌝ }
 {
     (s[at] != 0xAA)
         & (s[at + 1] != 0xAA)
@@ -88,7 +88,7 @@ pub fn find(line: Line, s: &[u8], from: usize, until: usize) -> Found
     ensures { λ r. ⌜ Finds (headsOf line) (now (s .entry)) from until r ⌝ }
 {
     let mut at = from;
-    let mut seen = Seen::Nothing;
+    let mut seen = Seen::NoMore;
     'hunt: while at < until {
         at = next_aa(s, at, until);
         if at == until {

@@ -8,10 +8,10 @@ use lib.ListN.{getD, set}
 use lib.Bits.{bitAnd, bitOr}
 use Rattle.record.specs.Record.{withOpened, withUnlocked, withSending, withFlags, withTries}
 use Rattle.record.specs.Layout.{FlagByte, TriesByte, place, bytesIn, atFlags, atTries}
-use Rattle.record.specs.Place.{TurnsAt}
+use Rattle.record.specs.InPlace.{TurnsAt}
 use Rattle.record.proofs.Choices.{masked}
 use Rattle.record.proofs.Stores.{withFlag, set-flagIn, get-triesIn, set-triesIn}
-use Rattle.record.proofs.PlaceLaws.{turns-at}
+use Rattle.record.proofs.InPlaceLaws.{turns-at}
 
 turn-flag : (s : List ℕ) (k : ℕ) (v : Bool) → 1 ≤ k → k ≤ 4 → TurnsAt FlagByte atFlags s (set s atFlags (masked k v (getD s atFlags 0))) (λ r. withFlags r (withFlag (r .flags) k v))
 turn-flag s k v l h = turns-at FlagByte atFlags s (λ at b. set b at (masked k v (getD b at 0))) (λ r. withFlags r (withFlag (r .flags) k v)) (λ p laid r i e. set-flagIn p laid r k v l h)

@@ -4,7 +4,7 @@ ghost use Prim.Native.Nat.{_+_, _<_};
 ghost use lib.ListN.{getD};
 ghost use Rattle.record.specs.Record.{withOpened, withUnlocked, withSending, withFlags, withTries};
 ghost use Rattle.record.specs.Layout.{FlagByte, TriesByte, atFlags, atTries};
-ghost use Rattle.record.specs.Place.{SoundAt, TurnsAt};
+ghost use Rattle.record.specs.InPlace.{SoundAt, TurnsAt};
 use record::places::AT_FLAGS;
 use record::places::AT_TRIES;
 use record::places::OPENED;

@@ -16,7 +16,7 @@ use Rattle.wire.specs.Frames.{waits}
 use Rattle.wire.specs.Serial.{serial}
 use Rattle.wire.proofs.NumberLaws.{length-part, part-all, part-is, drop-take}
 use Rattle.wire.proofs.ScanLaws.{part, behind-is}
-use Rattle.record.specs.Layout.{recordSize, nameRoom, modelRoom, pendingRoom, atName, atNameBytes, atModel, atPending, atWaiting, atPairs}
+use Rattle.record.specs.Layout.{recordSize, nameRoom, modelRoom, pendingRoom, atNameLength, atName, atModel, atPendingLength, atPending, atPairs}
 use Rattle.record.specs.Limits.{nameRange}
 use Rattle.record.specs.Form.{Field, partFits, allFine, wellFormed, formBy, formOf}
 use Rattle.record.specs.declared.Form.the-variants.{Good, Bad}
@@ -80,29 +80,29 @@ both-not a b e = rw e refl
 
 module _ (s : List ℕ) (whole : atModel ≤ length s) where
   abbrev name : ℕ
-  name = getD s atName 0
+  name = getD s atNameLength 0
 
   abbrev room : List ℕ
-  room = bytesAt nameRoom s atNameBytes
+  room = bytesAt nameRoom s atName
 
   -- the room as it is handed on
-  room-is : bytesAt nameRoom (take (atModel - atNameBytes) (drop atNameBytes s)) 0 ≡ room
-  room-is = ap (λ (l : List ℕ). bytesAt nameRoom l 0) (sym (part-is nameRoom s atNameBytes whole)) ∙ part-all nameRoom room (length-part nameRoom s atNameBytes)
+  room-is : bytesAt nameRoom (take (atModel - atName) (drop atName s)) 0 ≡ room
+  room-is = ap (λ (l : List ℕ). bytesAt nameRoom l 0) (sym (part-is nameRoom s atName whole)) ∙ part-all nameRoom room (length-part nameRoom s atName)
 
   pub name-long : nameRoom < name → false ≡ allFine (nameFields s)
   name-long h = rw (lt-leb name nameRoom h) refl
 
   module _ (h : name ≤ nameRoom) where
-    name-is : allFine (nameFields s) ≡ (fits (nameRange room) && allZero (part s (atNameBytes + name) atModel))
+    name-is : allFine (nameFields s) ≡ (fits (nameRange room) && allZero (part s (atName + name) atModel))
     name-is =
         fields-yes name nameRoom (partFits (λ l. fits (nameRange l)) name room) h
-        ∙ room-name name room ∙ ap (λ (l : List ℕ). fits (nameRange room) && allZero l) (part-behind s atNameBytes nameRoom name whole h)
+        ∙ room-name name room ∙ ap (λ (l : List ℕ). fits (nameRange room) && allZero l) (part-behind s atName nameRoom name whole h)
 
-    module _ (t : Bool) (e : t ≡ fits (nameRange (bytesAt nameRoom (take (atModel - atNameBytes) (drop atNameBytes s)) 0))) where
+    module _ (t : Bool) (e : t ≡ fits (nameRange (bytesAt nameRoom (take (atModel - atName) (drop atName s)) 0))) where
       named : fits (nameRange room) ≡ t
       named = sym (e ∙ ap (λ (l : List ℕ). fits (nameRange l)) room-is)
 
-      pub name-zeros : t ≡ true → allZero (part s (atNameBytes + name) atModel) ≡ allFine (nameFields s)
+      pub name-zeros : t ≡ true → allZero (part s (atName + name) atModel) ≡ allFine (nameFields s)
       name-zeros y = sym (name-is ∙ both-first _ _ (named ∙ y))
 
       pub name-bad : t ≡ false → false ≡ allFine (nameFields s)
@@ -112,21 +112,21 @@ module _ (s : List ℕ) (whole : atModel ≤ length s) where
 
 module _ (s : List ℕ) (whole : atPairs ≤ length s) where
   abbrev waiting : ℕ
-  waiting = getD s atPending 0
+  waiting = getD s atPendingLength 0
 
   pub pending-long : pendingRoom < waiting → false ≡ allFine (pendingFields s)
   pending-long h = rw (lt-leb waiting pendingRoom h) refl
 
   module _ (h : waiting ≤ pendingRoom) where
-    pending-is : allFine (pendingFields s) ≡ (waits serial (take waiting (drop atWaiting s)) && allZero (part s (atWaiting + waiting) atPairs))
+    pending-is : allFine (pendingFields s) ≡ (waits serial (take waiting (drop atPending s)) && allZero (part s (atPending + waiting) atPairs))
     pending-is =
-        let e : atWaiting + waiting - atWaiting ≡ waiting = omega arith in
-        fields-yes waiting pendingRoom (partFits (waits serial) waiting (bytesAt pendingRoom s atWaiting)) h ∙ part-fits (waits serial) s atWaiting pendingRoom waiting whole h ∙ rw e refl
+        let e : atPending + waiting - atPending ≡ waiting = omega arith in
+        fields-yes waiting pendingRoom (partFits (waits serial) waiting (bytesAt pendingRoom s atPending)) h ∙ part-fits (waits serial) s atPending pendingRoom waiting whole h ∙ rw e refl
 
-    pub pending-zeros : waits serial (take waiting (drop atWaiting s)) ≡ true → allZero (part s (atWaiting + waiting) atPairs) ≡ allFine (pendingFields s)
+    pub pending-zeros : waits serial (take waiting (drop atPending s)) ≡ true → allZero (part s (atPending + waiting) atPairs) ≡ allFine (pendingFields s)
     pending-zeros e = sym (pending-is ∙ both-first _ _ e)
 
-    pub pending-bad : waits serial (take waiting (drop atWaiting s)) ≡ false → false ≡ allFine (pendingFields s)
+    pub pending-bad : waits serial (take waiting (drop atPending s)) ≡ false → false ≡ allFine (pendingFields s)
     pending-bad e = sym (pending-is ∙ both-not _ _ e)
 
 -- ---- the model, from its first zero on

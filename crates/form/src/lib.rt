@@ -9,7 +9,7 @@ ghost use Rattle.wire.specs.Zeros.{zerosBehind};
 ghost use Rattle.wire.specs.Frames.{waits};
 ghost use Rattle.wire.specs.Serial.{serial};
 ghost use Rattle.peak.specs.Pairs.{pairFits, pairAt};
-ghost use Rattle.record.specs.Layout.{recordSize, channels, nameRoom, modelRoom, atCode, atInputs, atOutputs, atName, atModel, atPairs};
+ghost use Rattle.record.specs.Layout.{recordSize, channels, nameRoom, modelRoom, atCode, atInputs, atOutputs, atNameLength, atModel, atPairs};
 ghost use Rattle.record.specs.Limits.{nameRange};
 ghost use Rattle.record.specs.Form.{several, allFine, formOf};
 ghost use Rattle.form.specs.Groups.{headFields, radioFields, inputFields, switchFields, nameFields, pendingFields, pairFields};
@@ -30,17 +30,17 @@ use record::places::AT_INTERVAL;
 use record::places::AT_MODE;
 use record::places::AT_MODEL;
 use record::places::AT_NAME;
-use record::places::AT_NAME_BYTES;
+use record::places::AT_NAME_LENGTH;
 use record::places::AT_ON_OFF;
 use record::places::AT_OUTPUTS;
 use record::places::AT_PAIRS;
 use record::places::AT_PENDING;
+use record::places::AT_PENDING_LENGTH;
 use record::places::AT_POWER;
 use record::places::AT_SIZE;
 use record::places::AT_STEP;
 use record::places::AT_TRIES;
 use record::places::AT_VERSION;
-use record::places::AT_WAITING;
 use record::places::FILTERS;
 use record::places::MODEL_ROOM;
 use record::places::NAME_ROOM;
@@ -86,7 +86,7 @@ fn inputs_fine(s: &[u8]) -> bool
 }
 
 fn switches_fine(s: &[u8]) -> bool
-    requires { ⌜ atName ≤ length (now s) ⌝ }
+    requires { ⌜ atNameLength ≤ length (now s) ⌝ }
     ensures { λ r. ⌜ r ≡ allFine (switchFields (now (s .entry))) ⌝ }
 {
     let interval = interval_fits(s[AT_INTERVAL]);
@@ -119,12 +119,12 @@ fn name_fine(s: &[u8]) -> bool
     requires { ⌜ atModel ≤ length (now s) ⌝ }
     ensures { λ r. ⌜ r ≡ allFine (nameFields (now (s .entry))) ⌝ }
 {
-    let n = s[AT_NAME] as usize;
+    let n = s[AT_NAME_LENGTH] as usize;
     if NAME_ROOM < n {
         return false;
     }
-    if name_room(&s[AT_NAME_BYTES..AT_MODEL]) {
-        return zeros(s, AT_NAME_BYTES + n, AT_MODEL);
+    if name_room(&s[AT_NAME..AT_MODEL]) {
+        return zeros(s, AT_NAME + n, AT_MODEL);
     }
     false
 }
@@ -163,12 +163,12 @@ fn pending_fine(s: &[u8]) -> bool
     requires { ⌜ atPairs ≤ length (now s) ⌝ }
     ensures { λ r. ⌜ r ≡ allFine (pendingFields (now (s .entry))) ⌝ }
 {
-    let n = s[AT_PENDING] as usize;
+    let n = s[AT_PENDING_LENGTH] as usize;
     if PENDING_ROOM < n {
         return false;
     }
-    if waiting_fine(s, AT_WAITING, n) {
-        return zeros(s, AT_WAITING + n, AT_PAIRS);
+    if waiting_fine(s, AT_PENDING, n) {
+        return zeros(s, AT_PENDING + n, AT_PAIRS);
     }
     false
 }

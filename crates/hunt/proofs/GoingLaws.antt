@@ -12,8 +12,8 @@ use Rattle.wire.proofs.SerialLaws.{Huntable, taken-headed}
 use Rattle.wire.proofs.AlongLaws.{found-part}
 use Rattle.record.specs.Record.{Record}
 use Rattle.record.specs.Layout.{recordOf}
-use Rattle.record.specs.Place.{Sound}
-use Rattle.record.proofs.PlaceLaws.{holds-is, holds-sound, holds-long}
+use Rattle.record.specs.InPlace.{Sound}
+use Rattle.record.proofs.InPlaceLaws.{holds-is, holds-sound, holds-long}
 use Rattle.command.specs.Step.{stepOf}
 use Rattle.carry.specs.Carry.{Carries}
 use Rattle.hunt.specs.Progress.{Going}

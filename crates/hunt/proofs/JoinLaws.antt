@@ -15,11 +15,11 @@ use Rattle.wire.proofs.PutLaws.{put-put, put-zero}
 use Rattle.wire.proofs.SerialLaws.{Huntable, pending-short}
 use Rattle.wire.proofs.AlongLaws.{stopped}
 use Rattle.record.specs.Record.{Record, withPending}
-use Rattle.record.specs.Layout.{pendingRoom, atPending, atWaiting, recordOf}
-use Rattle.record.specs.Place.{Sound, Turns, SoundPending}
-use Rattle.record.proofs.PlaceLaws.{holds-long, sound-pending}
+use Rattle.record.specs.Layout.{pendingRoom, atPendingLength, atPending, recordOf}
+use Rattle.record.specs.InPlace.{Sound, Turns, SoundPending}
+use Rattle.record.proofs.InPlaceLaws.{holds-long, sound-pending}
 use Rattle.record.proofs.Lens.{get-pending-length}
-use Rattle.command.specs.Step.{answer}
+use Rattle.command.specs.Step.{onPiece}
 use Rattle.hunt.specs.Progress.{Hunts, Rests, Joins}
 use Rattle.hunt.specs.declared.Progress.{Progress}
 use Rattle.hunt.proofs.GoingLaws.{going-sound}
@@ -65,13 +65,13 @@ module _ (heads : Heads) (s l before : List ℕ) (start : ℕ) (p : Progress) (m
   rests-kept = going-sound heads l before start (recordOf s) (p .at) (p .skipped) (p .wrote) mid out (h .going)
 
   pub rests-short : Huntable heads → length (take (length l - p .at) (drop (p .at) l)) ≤ pendingRoom
-  rests-short ok = rw (part-rest l (p .at)) (halted-short heads ok (h .going .board) (drop (p .at) l) (stopped Record Reply heads answer (h .going .board) l (p .at) (length l) (omega arith) (h .stops)))
+  rests-short ok = rw (part-rest l (p .at)) (halted-short heads ok (h .going .board) (drop (p .at) l) (stopped Record Reply heads onPiece (h .going .board) l (p .at) (length l) (omega arith) (h .stops)))
 
   pub rests : (kept : List ℕ) → Turns mid kept (λ z. withPending z (take (length l - p .at) (drop (p .at) l))) → Rests heads (recordOf s) l before start p kept out
   rests kept t = record { mid = mid; hunts = h; turns = subst (λ (x : List ℕ). Turns mid kept (λ z. withPending z x)) (part-rest l (p .at)) t }
 
 -- what the store of the pending bytes asks for
-pub roomed : (s : List ℕ) (m : ℕ) → Sound s × (m ≤ pendingRoom) → SoundPending atPending pendingRoom s × (m ≤ pendingRoom)
+pub roomed : (s : List ℕ) (m : ℕ) → Sound s × (m ≤ pendingRoom) → SoundPending atPendingLength pendingRoom s × (m ≤ pendingRoom)
 roomed s m h = (sound-pending s (h .0), h .1)
 
 -- ---- the pending bytes in their place
@@ -80,18 +80,18 @@ module _ (s : List ℕ) (sound : Sound s) where
   abbrev r : Record
   r = recordOf s
 
-  pub held-is : getD s atPending 0 ≡ length (r .pending)
-  held-is = ap (λ (x : List ℕ). getD x atPending 0) (sound .same) ∙ get-pending-length r
+  pub held-is : getD s atPendingLength 0 ≡ length (r .pending)
+  held-is = ap (λ (x : List ℕ). getD x atPendingLength 0) (sound .same) ∙ get-pending-length r
 
-  pub held-few : getD s atPending 0 ≤ pendingRoom
+  pub held-few : getD s atPendingLength 0 ≤ pendingRoom
   held-few = omega (arith, held-is, pending-short (r .pending) (sound .fit .pending))
 
-  pub held-inside : atWaiting + getD s atPending 0 ≤ length s
+  pub held-inside : atPending + getD s atPendingLength 0 ≤ length s
   held-inside = omega (arith, held-few, holds-long r s sound)
 
-  pub pending-part : take (getD s atPending 0) (drop atWaiting s) ≡ r .pending
+  pub pending-part : take (getD s atPendingLength 0) (drop atPending s) ≡ r .pending
   unfolding recordOf
-  pending-part = sym (take-take (getD s atPending 0) pendingRoom (drop atWaiting s) held-few) ∙ ap (take (getD s atPending 0)) (sym (part-is pendingRoom s atWaiting (omega (arith, holds-long r s sound))))
+  pending-part = sym (take-take (getD s atPendingLength 0) pendingRoom (drop atPending s) held-few) ∙ ap (take (getD s atPendingLength 0)) (sym (part-is pendingRoom s atPending (omega (arith, holds-long r s sound))))
 
 -- ---- the joined head of the pending bytes p and the input
 

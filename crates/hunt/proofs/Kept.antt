@@ -13,16 +13,16 @@ use Rattle.wire.proofs.CutLaws.{Fair, cut-waits, cut-bytes, pieces-fair}
 use Rattle.wire.proofs.RunLaws.{runs-keep}
 use Rattle.record.specs.Record.{Record, withPending}
 use Rattle.record.specs.Form.{InRange}
-use Rattle.command.specs.Step.{answer}
+use Rattle.command.specs.Step.{onPiece}
 use Rattle.command.proofs.Keep.{step-in}
 use Rattle.hunt.specs.Hunt.{huntOf, recordAfter}
 
-answer-in : (r : Record) (p : Piece) → Fair p → InRange r → InRange (answer r p .state)
+answer-in : (r : Record) (p : Piece) → Fair p → InRange r → InRange (onPiece r p .state)
 answer-in r (Whole f) h i = step-in r f (h .1) i
 answer-in r (Broken head) h i = i
 
-pub runs-in : (heads : Heads) (r : Record) (l : List ℕ) → Bytes l → InRange r → InRange (runs answer r (cut heads l .pieces) .state)
-runs-in heads r l b i = runs-keep Record Reply heads answer InRange Fair answer-in r (cut heads l .pieces) (pieces-fair heads l b) i
+pub runs-in : (heads : Heads) (r : Record) (l : List ℕ) → Bytes l → InRange r → InRange (runs onPiece r (cut heads l .pieces) .state)
+runs-in heads r l b i = runs-keep Record Reply heads onPiece InRange Fair answer-in r (cut heads l .pieces) (pieces-fair heads l b) i
 
 pending-in : (r : Record) (l : List ℕ) → waits serial l ≡ true → Bytes l → InRange r → InRange (withPending r l)
 unfolding withPending
@@ -33,4 +33,4 @@ unfolding recordAfter huntOf hunt
 hunt-in r input b i =
     let l = r .pending ++ input in
     let bytes : Bytes l = bytes-append (r .pending) input (i .pending-bytes) b in
-    pending-in (runs answer r (cut serial l .pieces) .state) (cut serial l .waiting) (cut-waits serial l) (cut-bytes serial l bytes) (runs-in serial r l bytes i)
+    pending-in (runs onPiece r (cut serial l .pieces) .state) (cut serial l .waiting) (cut-waits serial l) (cut-bytes serial l bytes) (runs-in serial r l bytes i)

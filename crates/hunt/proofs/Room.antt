@@ -15,7 +15,7 @@ use Rattle.wire.proofs.CutLaws.{Fair, frames, conserved, pieces-fair}
 use Rattle.wire.proofs.ReplyLaws.{reply-bounds, length-none, length-cons}
 use Rattle.record.specs.Record.{Record}
 use Rattle.record.specs.Form.{InRange}
-use Rattle.command.specs.Step.{stepOf, answer}
+use Rattle.command.specs.Step.{stepOf, onPiece}
 use Rattle.command.proofs.Keep.{step-in, reply-short}
 use Rattle.hunt.specs.Hunt.{huntOf, roomFor}
 
@@ -27,16 +27,16 @@ four (Whole f ∷ ps) h = omega (arith, four ps (h .1), h .0 .0)
 four (Broken head ∷ ps) h = four ps (h .1)
 
 -- and at most nineteen of reply
-nineteen : (r : Record) (ps : List Piece) → All Fair ps → InRange r → length (written (runs answer r ps .said)) ≤ frameMost * frames ps
+nineteen : (r : Record) (ps : List Piece) → All Fair ps → InRange r → length (written (runs onPiece r ps .said)) ≤ frameMost * frames ps
 unfolding All frames runs
 nineteen r [] f i = omega (arith, length-none)
 nineteen r (Whole f ∷ ps) h i =
     let b = reply-bounds (stepOf r f .reply) (reply-short r f i) in
     let more = nineteen (stepOf r f .after) ps (h .1) (step-in r f (h .0 .1) i) in
-    rw (length-cons (stepOf r f .reply) (runs answer (stepOf r f .after) ps .said)) (omega (arith, b .1, more))
+    rw (length-cons (stepOf r f .reply) (runs onPiece (stepOf r f .after) ps .said)) (omega (arith, b .1, more))
 nineteen r (Broken head ∷ ps) h i = nineteen r ps (h .1) i
 
-pub hunt-fits : (heads : Heads) (r : Record) (l : List ℕ) → Bytes l → InRange r → length (written (hunt heads answer r l .said)) ≤ roomFor (length l)
+pub hunt-fits : (heads : Heads) (r : Record) (l : List ℕ) → Bytes l → InRange r → length (written (hunt heads onPiece r l .said)) ≤ roomFor (length l)
 unfolding hunt
 hunt-fits heads r l b i =
     let fair = pieces-fair heads l b in

@@ -20,23 +20,23 @@ use Rattle.wire.proofs.RunLaws.{hunt-wait, hunt-further}
 use Rattle.wire.proofs.AlongLaws.{along-end, stopped}
 use Rattle.record.specs.Record.{Record, withPending}
 use Rattle.record.specs.Layout.{bytesOf, recordOf}
-use Rattle.record.specs.Place.{Turns}
-use Rattle.record.proofs.PlaceLaws.{holds-is}
-use Rattle.command.specs.Step.{answer}
+use Rattle.record.specs.InPlace.{Turns}
+use Rattle.record.proofs.InPlaceLaws.{holds-is}
+use Rattle.command.specs.Step.{onPiece}
 use Rattle.hunt.specs.Hunt.{huntOf, recordAfter}
 use Rattle.hunt.specs.Progress.{Hunts, Serves}
 use Rattle.hunt.specs.declared.Progress.{Progress}
-use Rattle.hunt.specs.declared.Served.{Served}
+use Rattle.hunt.specs.declared.Counts.{Counts}
 
 -- what such a call leaves, by the heads and its whole stream
-pub record ServesFor (heads : Heads) (r : Record) (l before : List ℕ) (t : Served) (kept out : List ℕ) : Type 0 where
-  pub record-is : kept ≡ bytesOf (recordAfter (hunt heads answer r l))
-  pub written-is : t .written ≡ length (written (hunt heads answer r l .said))
-  pub skipped-is : t .skipped ≡ hunt heads answer r l .skipped
-  pub bytes : out ≡ put before 0 (written (hunt heads answer r l .said))
+pub record ServesFor (heads : Heads) (r : Record) (l before : List ℕ) (t : Counts) (kept out : List ℕ) : Type 0 where
+  pub record-is : kept ≡ bytesOf (recordAfter (hunt heads onPiece r l))
+  pub written-is : t .written ≡ length (written (hunt heads onPiece r l .said))
+  pub skipped-is : t .skipped ≡ hunt heads onPiece r l .skipped
+  pub bytes : out ≡ put before 0 (written (hunt heads onPiece r l .said))
 
 -- the board's own call
-pub serves-board : (r : Record) (input before : List ℕ) (t : Served) (kept out : List ℕ) → ServesFor serial r (r .pending ++ input) before t kept out → Serves r input before t kept out
+pub serves-board : (r : Record) (input before : List ℕ) (t : Counts) (kept out : List ℕ) → ServesFor serial r (r .pending ++ input) before t kept out → Serves r input before t kept out
 unfolding huntOf
 serves-board r input before t kept out e = record { record-is = e .record-is; written-is = e .written-is; skipped-is = e .skipped-is; bytes = e .bytes }
 
@@ -45,7 +45,7 @@ unfolding recordAfter
 after-of h = refl
 
 -- what waits at the end of a hunt is short
-pub halted-short : (heads : Heads) → Huntable heads → (b : Record) (g : List ℕ) → hunt heads answer b g ≡ halt b g → length g ≤ 18
+pub halted-short : (heads : Heads) → Huntable heads → (b : Record) (g : List ℕ) → hunt heads onPiece b g ≡ halt b g → length g ≤ 18
 unfolding hunt
 halted-short heads ok b g e =
     let w : cut heads g .waiting ≡ g = ap (λ (h : Hunted Record Reply). h .waiting) e in
@@ -63,29 +63,29 @@ module _ (p i : List ℕ) (n : ℕ) (n-is : n ≡ length i - (length i - 19)) wh
   pub joined-length : length joined ≡ length p + n
   joined-length = length-append p (take n i) ∙ rw front-length refl
 
-  module _ (heads : Heads) (ok : Huntable heads) (r b : Record) (at k : ℕ) (said : List Reply) (f : Along heads answer r joined b at k said) where
+  module _ (heads : Heads) (ok : Huntable heads) (r b : Record) (at k : ℕ) (said : List Reply) (f : Along heads onPiece r joined b at k said) where
     -- a candidate that starts in the pending bytes and waits has seen all of the input
-    waits-all : at < length p → (length p ≤ at) ⊎ (look heads (drop at joined) ≡ Wait) → (joined ≡ p ++ i) × (hunt heads answer b (drop at joined) ≡ halt b (drop at joined))
+    waits-all : at < length p → (length p ≤ at) ⊎ (look heads (drop at joined) ≡ Wait) → (joined ≡ p ++ i) × (hunt heads onPiece b (drop at joined) ≡ halt b (drop at joined))
     waits-all h w = ⊎-elim (λ e. absurd (omega arith))
         (λ e.
         let q : length (drop at joined) < 19 = wait-short heads 19 (ok .under) (drop at joined) e in
         let m : length i ≤ n = omega (arith, length-drop at joined, joined-length) in
-        (rw (take-all n i m) refl, hunt-wait Record Reply heads answer b (drop at joined) e)) w
+        (rw (take-all n i m) refl, hunt-wait Record Reply heads onPiece b (drop at joined) e)) w
 
     -- else what is left is a part of the input
-    goes-on : length p ≤ at → hunt heads answer r (p ++ i) ≡ ahead said k (hunt heads answer b (drop (at - length p) i))
+    goes-on : length p ≤ at → hunt heads onPiece r (p ++ i) ≡ ahead said k (hunt heads onPiece b (drop (at - length p) i))
     goes-on h =
         let w : joined ++ drop n i ≡ p ++ i = append-assoc p (take n i) (drop n i) ∙ rw (take-append-drop n i) refl in
         let j : length p + (at - length p) ≡ at = omega arith in
         let d : drop at joined ++ drop n i ≡ drop (at - length p) i =
         sym (drop-append-le at joined (drop n i) (f .within)) ∙ ap (drop at) w ∙ ap (λ (x : ℕ). drop x (p ++ i)) (sym j) ∙ drop-append-add p i (at - length p) in
-        ap (hunt heads answer r) (sym w) ∙ hunt-further Record Reply heads answer (ok .steady) r b joined (drop at joined) (drop n i) said k (f .hunts) ∙ rw d refl
+        ap (hunt heads onPiece r) (sym w) ∙ hunt-further Record Reply heads onPiece (ok .steady) r b joined (drop at joined) (drop n i) said k (f .hunts) ∙ rw d refl
 
 -- ---- the end, by what was said
 
 module _ (heads : Heads) (r : Record) (p input before : List ℕ) where
   serves-said : (b : Record) (said : List Reply) (k wrote : ℕ) (rest kept out : List ℕ)
-      → hunt heads answer r (p ++ input) ≡ record { state = b; said = said; skipped = k; waiting = rest } → kept ≡ bytesOf (withPending b rest)
+      → hunt heads onPiece r (p ++ input) ≡ record { state = b; said = said; skipped = k; waiting = rest } → kept ≡ bytesOf (withPending b rest)
       → wrote ≡ length (written said) → out ≡ put before 0 (written said) → ServesFor heads r (p ++ input) before (record { written = wrote; skipped = k }) kept out
   serves-said b said k wrote rest kept out h e w o = record { record-is = rw (h, after-of) e; written-is = rw h w; skipped-is = rw h refl; bytes = rw h o }
 
@@ -99,7 +99,7 @@ module _ (heads : Heads) (r : Record) (p input before : List ℕ) where
 
     -- all waits in the joined head
     module _ (ok : Huntable heads) (a : h .at < length p) where
-      all : (head ≡ p ++ input) × (hunt heads answer (f .going .board) (drop (h .at) head) ≡ halt (f .going .board) (drop (h .at) head))
+      all : (head ≡ p ++ input) × (hunt heads onPiece (f .going .board) (drop (h .at) head) ≡ halt (f .going .board) (drop (h .at) head))
       all = waits-all p input n n-is heads ok r (f .going .board) (h .at) (h .skipped) (f .going .sofar .said) (f .going .sofar .along) a (f .stops)
 
       pub head-short : length (drop (h .at) head) ≤ 18
@@ -109,7 +109,7 @@ module _ (heads : Heads) (r : Record) (p input before : List ℕ) where
       serves-head kept′ t =
           let g = f .going in
           serves-said (g .board) (g .sofar .said) (h .skipped) (h .wrote) (drop (h .at) head) kept′ out
-          (ap (hunt heads answer r) (sym (all .0)) ∙ along-end Record Reply heads answer r head (g .board) (h .at) (h .skipped) (g .sofar .said) (g .sofar .along) (all .1))
+          (ap (hunt heads onPiece r) (sym (all .0)) ∙ along-end Record Reply heads onPiece r head (g .board) (h .at) (h .skipped) (g .sofar .said) (g .sofar .along) (all .1))
           (t (g .board) (g .held .fit) (g .held .same)) (g .sofar .wrote-is ∙ zero-add _) (g .sofar .bytes)
 
     -- the hunt went on in the input
@@ -126,8 +126,8 @@ module _ (heads : Heads) (r : Record) (p input before : List ℕ) where
           omega (arith, f .going .sofar .room, f .going .sofar .wrote-is, rest-starts, length-drop (h .at - length p) input)
 
       module _ (x : Progress) (kept₂ out₂ : List ℕ) (y : Hunts heads (recordOf kept) rest out (length rest) (h .wrote) x kept₂ out₂) where
-        end-halts : hunt heads answer (y .going .board) (drop (x .at) rest) ≡ halt (y .going .board) (drop (x .at) rest)
-        end-halts = stopped Record Reply heads answer (y .going .board) rest (x .at) (length rest) (omega arith) (y .stops)
+        end-halts : hunt heads onPiece (y .going .board) (drop (x .at) rest) ≡ halt (y .going .board) (drop (x .at) rest)
+        end-halts = stopped Record Reply heads onPiece (y .going .board) rest (x .at) (length rest) (omega arith) (y .stops)
 
         pub serves-rest : Huntable heads → (kept₃ : List ℕ) → Turns kept₂ kept₃ (λ z. withPending z (drop (x .at) rest)) → ServesFor heads r (p ++ input) before (record { written = x .wrote; skipped = h .skipped + x .skipped }) kept₃ out₂
         serves-rest ok kept₃ t =
@@ -136,11 +136,11 @@ module _ (heads : Heads) (r : Record) (p input before : List ℕ) where
             let said = g .sofar .said in
             let more = u .sofar .said in
             let v : written (said ++ more) ≡ written said ++ written more = written-append said more in
-            let first : hunt heads answer r (p ++ input) ≡ ahead said (h .skipped) (hunt heads answer (g .board) rest) =
+            let first : hunt heads onPiece r (p ++ input) ≡ ahead said (h .skipped) (hunt heads onPiece (g .board) rest) =
             goes-on p input n n-is heads ok r (g .board) (h .at) (h .skipped) said (g .sofar .along) past in
-            let second : hunt heads answer (g .board) rest ≡ record { state = u .board; said = more; skipped = x .skipped; waiting = drop (x .at) rest } =
-            ap (λ (b : Record). hunt heads answer b rest) (sym (holds-is (g .board) kept (g .held)))
-            ∙ along-end Record Reply heads answer (recordOf kept) rest (u .board) (x .at) (x .skipped) more (u .sofar .along) end-halts in
+            let second : hunt heads onPiece (g .board) rest ≡ record { state = u .board; said = more; skipped = x .skipped; waiting = drop (x .at) rest } =
+            ap (λ (b : Record). hunt heads onPiece b rest) (sym (holds-is (g .board) kept (g .held)))
+            ∙ along-end Record Reply heads onPiece (recordOf kept) rest (u .board) (x .at) (x .skipped) more (u .sofar .along) end-halts in
             serves-said (u .board) (said ++ more) (h .skipped + x .skipped) (x .wrote) (drop (x .at) rest) kept₃ out₂ (first ∙ rw second refl)
             (t (u .board) (u .held .fit) (u .held .same))
             (u .sofar .wrote-is ∙ rw (v, g .sofar .wrote-is, zero-add) (sym (length-append (written said) (written more))))

@@ -13,23 +13,23 @@ use Rattle.wire.proofs.PutLaws.{put-nil, put-put, length-put}
 use Rattle.wire.proofs.ReplyLaws.{written-append, written-one}
 use Rattle.wire.proofs.AlongLaws.{along-start, along-pass, along-tear, along-take}
 use Rattle.record.specs.Record.{Record}
-use Rattle.command.specs.Step.{stepOf, answer}
+use Rattle.command.specs.Step.{stepOf, onPiece}
 use Rattle.carry.specs.Carry.{Carries}
 use Rattle.hunt.specs.Progress.{Sofar}
 
 module _ (heads : Heads) (r : Record) (l before : List ℕ) (start : ℕ) where
   pub sofar-start : Sofar heads r l before start r 0 0 start before
   unfolding written
-  sofar-start = record { said = []; along = along-start Record Reply heads answer r l; room = omega arith; wrote-is = sym (add-zero start); bytes = sym (put-nil before start) }
+  sofar-start = record { said = []; along = along-start Record Reply heads onPiece r l; room = omega arith; wrote-is = sym (add-zero start); bytes = sym (put-nil before start) }
 
   module _ (b : Record) (at skipped wrote : ℕ) (out : List ℕ) (f : Sofar heads r l before start b at skipped wrote out) where
     pub sofar-pass : (to : ℕ) → Passed heads l at to → Sofar heads r l before start b to (skipped + (to - at)) wrote out
-    sofar-pass to p = record { said = f .said; along = along-pass Record Reply heads answer r l b at skipped (f .said) (f .along) to p; room = omega (arith, f .room, p .after); wrote-is = f .wrote-is; bytes = f .bytes }
+    sofar-pass to p = record { said = f .said; along = along-pass Record Reply heads onPiece r l b at skipped (f .said) (f .along) to p; room = omega (arith, f .room, p .after); wrote-is = f .wrote-is; bytes = f .bytes }
 
     pub sofar-tear : look heads (drop at l) ≡ Tear → Sofar heads r l before start b (at + 1) (skipped + 1) wrote out
     sofar-tear e = record {
       said = f .said;
-      along = subst (Along heads answer r l b (at + 1) (skipped + 1)) (append-nil (f .said)) (along-tear Record Reply heads answer r l b at skipped (f .said) (f .along) e);
+      along = subst (Along heads onPiece r l b (at + 1) (skipped + 1)) (append-nil (f .said)) (along-tear Record Reply heads onPiece r l b at skipped (f .said) (f .along) e);
       room = omega (arith, f .room);
       wrote-is = f .wrote-is;
       bytes = f .bytes;
@@ -56,7 +56,7 @@ module _ (heads : Heads) (r : Record) (l before : List ℕ) (start : ℕ) where
           let v : length (w ++ x) ≡ length w + length x = length-append w x in
           record {
             said = f .said ++ a .reply ∷ [];
-            along = along-take Record Reply heads answer r l b at skipped (f .said) (f .along) n e;
+            along = along-take Record Reply heads onPiece r l b at skipped (f .said) (f .along) n e;
             room = rw (m, v) (omega (arith, f .room, c .small, c .ends));
             wrote-is = rw (m, v) (omega (arith, f .wrote-is, c .ends));
             bytes = c .bytes ∙ rw (m, f .wrote-is, f .bytes) (put-put before start w x k);

@@ -6,11 +6,11 @@ use Rattle.wire.specs.Serial.{serial}
 use Rattle.wire.specs.Replies.{Reply}
 use Rattle.wire.specs.Run.{Hunted, hunt}
 use Rattle.record.specs.Record.{Record, withPending}
-use Rattle.command.specs.Step.{stepOf, answer}
+use Rattle.command.specs.Step.{stepOf, onPiece}
 
 -- the hunt of a board through a stream
 abbrev pub huntFrom : Record → List ℕ → Hunted Record Reply
-huntFrom r l = hunt serial answer r l
+huntFrom r l = hunt serial onPiece r l
 
 -- "The bytes call joins the pending bytes of the record and its input, and hunts from the left (*house*)"
 unfoldable pub huntOf : Record → List ℕ → Hunted Record Reply

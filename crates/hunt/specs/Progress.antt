@@ -11,16 +11,16 @@ use Rattle.wire.specs.Replies.{Reply, written}
 use Rattle.wire.specs.Run.{Along}
 use Rattle.record.specs.Record.{Record, withPending}
 use Rattle.record.specs.Layout.{bytesOf}
-use Rattle.record.specs.Place.{Holds, Turns}
-use Rattle.command.specs.Step.{answer}
+use Rattle.record.specs.InPlace.{Holds, Turns}
+use Rattle.command.specs.Step.{onPiece}
 use Rattle.hunt.specs.Hunt.{huntOf, recordAfter, roomFor}
 use Rattle.hunt.specs.declared.Progress.{Progress}
-use Rattle.hunt.specs.declared.Served.{Served}
+use Rattle.hunt.specs.declared.Counts.{Counts}
 
 -- the board b on its way through the stream, and the replies written from a place of the output on
 pub record Sofar (heads : Heads) (r : Record) (l before : List ℕ) (start : ℕ) (b : Record) (at skipped wrote : ℕ) (out : List ℕ) : Type 0 where
   pub said : List Reply
-  pub along : Along heads answer r l b at skipped said
+  pub along : Along heads onPiece r l b at skipped said
   pub room : length (written said) ≤ roomFor at
   pub wrote-is : wrote ≡ start + length (written said)
   pub bytes : out ≡ put before start (written said)
@@ -47,7 +47,7 @@ abbrev pub Joins : List ℕ → List ℕ → ℕ → List ℕ → Type 0
 Joins pending input n head = (n ≡ length pending + (length input - (length input - frameMost))) × (take n head ≡ pending ++ take (length input - (length input - frameMost)) input)
 
 -- what a bytes call that passed its checks leaves
-pub record Serves (r : Record) (input before : List ℕ) (t : Served) (kept out : List ℕ) : Type 0 where
+pub record Serves (r : Record) (input before : List ℕ) (t : Counts) (kept out : List ℕ) : Type 0 where
   pub record-is : kept ≡ bytesOf (recordAfter (huntOf r input))
   pub written-is : t .written ≡ length (written (huntOf r input .said))
   pub skipped-is : t .skipped ≡ huntOf r input .skipped

@@ -5,7 +5,7 @@ ghost use lib.ListN.{length, take, drop};
 ghost use Rattle.wire.specs.Sizes.{frameMost, waitMost, inputMost, streamMost, joinMost};
 ghost use Rattle.wire.specs.Serial.{headsOf};
 ghost use Rattle.record.specs.Layout.{pendingRoom, recordOf};
-ghost use Rattle.record.specs.Place.{Sound};
+ghost use Rattle.record.specs.InPlace.{Sound};
 ghost use Rattle.hunt.specs.Hunt.{roomFor};
 ghost use Rattle.hunt.specs.Progress.{Hunts, Rests, Joins, Serves};
 use carry::carry;
@@ -13,7 +13,7 @@ use finder::Seen;
 use finder::find;
 use parts::set_pending;
 use record::places::AT_PENDING;
-use record::places::AT_WAITING;
+use record::places::AT_PENDING_LENGTH;
 use record::places::PENDING_ROOM;
 use wire::Line;
 use wire::buffer::put_in;
@@ -28,7 +28,7 @@ pub struct Progress {
 }
 
 // What a bytes call tells of its whole stream.
-pub struct Served {
+pub struct Counts {
     pub written: usize,
     pub skipped: usize,
 }
@@ -75,7 +75,7 @@ fn hunt_in(
                 skipped += 1;
                 continue 'hunt;
             }
-            Seen::Nothing => {
+            Seen::NoMore => {
                 break 'hunt;
             }
         }
@@ -113,32 +113,32 @@ fn hunt_rest(line: Line, rec: &mut [u8], s: &[u8], out: &mut [u8], start: usize)
     let len = s.len();
     let p = hunt_in(line, rec, s, len, out, start);
     let at = p.at;
-    set_pending(rec, AT_PENDING, PENDING_ROOM, &s[at..len]);
+    set_pending(rec, AT_PENDING_LENGTH, PENDING_ROOM, &s[at..len]);
     p
 }
 
 // The whole of a bytes call that passed its checks: first candidates that start in the pending bytes, then the input itself.
-pub fn serve(rec: &mut [u8], input: &[u8], out: &mut [u8]) -> Served
+pub fn serve(rec: &mut [u8], input: &[u8], out: &mut [u8]) -> Counts
     requires { ⌜ Sound (now rec) ⌝ }
     requires { ⌜ length (now input) ≤ inputMost ⌝ }
     requires { ⌜ roomFor (length (recordOf (now rec) .pending) + length (now input)) ≤ length (now out) ⌝ }
     ensures { λ t. ⌜ Serves (recordOf (now (rec .entry))) (now (input .entry)) (now (out .entry)) t (now (rec .exit)) (now (out .exit)) ⌝ }
 {
-    let held = rec[AT_PENDING] as usize;
+    let held = rec[AT_PENDING_LENGTH] as usize;
     let mut head = [0u8; JOIN_MOST];
-    let total = join(rec, AT_WAITING, held, input, &mut head);
+    let total = join(rec, AT_PENDING, held, input, &mut head);
     let first = hunt_in(Line::Board, rec, &head[..total], held, out, 0);
     let at = first.at;
     if at < held {
-        set_pending(rec, AT_PENDING, PENDING_ROOM, &head[at..total]);
-        return Served {
+        set_pending(rec, AT_PENDING_LENGTH, PENDING_ROOM, &head[at..total]);
+        return Counts {
             written: first.wrote,
             skipped: first.skipped,
         };
     }
     let from = at - held;
     let rest = hunt_rest(Line::Board, rec, &input[from..], out, first.wrote);
-    Served {
+    Counts {
         written: rest.wrote,
         skipped: first.skipped + rest.skipped,
     }

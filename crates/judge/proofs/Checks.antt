@@ -14,11 +14,11 @@ use Rattle.wire.specs.declared.Range.the-variants.{Fits, Big, Small}
 use Rattle.record.specs.Record.{Record}
 use Rattle.record.specs.Layout.{FlagByte, Plan, place, atFlags, atTries, atCode, flagsByte, bytesIn, bytesOf, bitOf}
 use Rattle.record.specs.Laid.{Laid}
-use Rattle.record.specs.Place.{Sound, Shows, SoundAt, ShowsAt}
+use Rattle.record.specs.InPlace.{Sound, Shows, SoundAt, ShowsAt}
 use Rattle.record.proofs.Choices.{bits-back}
 use Rattle.record.proofs.Lens.{get-tries, get-code}
 use Rattle.record.proofs.Stores.{get-flagsIn}
-use Rattle.record.proofs.PlaceLaws.{sound-at, here-shows}
+use Rattle.record.proofs.InPlaceLaws.{sound-at, here-shows}
 use Rattle.command.specs.declared.Command.{Command}
 use Rattle.command.specs.declared.Command.the-variants.{Open, Close, ReadPower, SetPower, ReadStep, SetStep, ReadMode, SetMode, ReadName, SetName, ReadOnOff, SetOnOff, SetInput, ReadInput, SwitchOutput, SetInterval, ReadInterval, Unlock, ReadLock, ReadModel, SetModel, StopSending, StartSending, ReadFilter, SetFilter, ReadPair}
 use Rattle.command.specs.declared.Listed.{Listed}

@@ -2,7 +2,7 @@
 ghost use Prim.Native.Nat.{_≤_};
 ghost use lib.ListN.{length};
 ghost use Rattle.record.specs.Layout.{FlagByte, atFlags};
-ghost use Rattle.record.specs.Place.{Sound, Shows, SoundAt, ShowsAt};
+ghost use Rattle.record.specs.InPlace.{Sound, Shows, SoundAt, ShowsAt};
 ghost use Rattle.command.specs.declared.Need.the-variants.{Code};
 ghost use Rattle.command.specs.Judge.{accessOf, verdictOf};
 ghost use Rattle.judge.specs.Checks.{asks};

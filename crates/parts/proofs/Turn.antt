@@ -10,17 +10,17 @@ use Rattle.wire.specs.Zeros.{beforeZero}
 use Rattle.wire.proofs.NumberLaws.{length-part}
 use Rattle.wire.proofs.PutLaws.{put-put, put-sets}
 use Rattle.record.specs.Record.{withName, withSettings, withModel, withPending}
-use Rattle.record.specs.Layout.{NamePart, ModelPart, nameRoom, modelRoom, atName}
-use Rattle.record.specs.Place.{TurnsAt, TurnsPending}
+use Rattle.record.specs.Layout.{NamePart, ModelPart, nameRoom, modelRoom, atNameLength}
+use Rattle.record.specs.InPlace.{TurnsAt, TurnsPending}
 use Rattle.record.proofs.Parts.{padded, cut-take}
 use Rattle.record.proofs.Stores.{set-nameIn, set-modelIn, set-pendingIn}
-use Rattle.record.proofs.PlaceLaws.{turns-at}
+use Rattle.record.proofs.InPlaceLaws.{turns-at}
 
 module _ (s : List ℕ) where
   module _ (p : List ℕ) where
-    pub turn-name : TurnsAt NamePart atName s (sets (set s atName (length p)) (atName + 1) (bytesAt nameRoom p 0)) (λ r. withSettings r (withName (r .settings) p))
+    pub turn-name : TurnsAt NamePart atNameLength s (sets (set s atNameLength (length p)) (atNameLength + 1) (bytesAt nameRoom p 0)) (λ r. withSettings r (withName (r .settings) p))
     turn-name =
-        turns-at NamePart atName s (λ at d. sets (set d at (length p)) (at + 1) (bytesAt nameRoom p 0)) (λ r. withSettings r (withName (r .settings) p)) (λ q laid r i e. set-nameIn q laid r e p)
+        turns-at NamePart atNameLength s (λ at d. sets (set d at (length p)) (at + 1) (bytesAt nameRoom p 0)) (λ r. withSettings r (withName (r .settings) p)) (λ q laid r i e. set-nameIn q laid r e p)
 
     pub turn-pending : (at room n : ℕ) → n ≡ room → TurnsPending at room s (sets (set s at (length p)) (at + 1) (bytesAt n p 0)) (λ r. withPending r p)
     turn-pending at room n same q w r i e = rw (e, same, ← (w .1), ← (w .0 .stands)) (set-pendingIn q (w .0 .laid) r p)

@@ -3,12 +3,12 @@ ghost use mathlib.Core.Path.{_≡_};
 ghost use lib.ListN.{length};
 ghost use Rattle.record.specs.Layout.{recordSize, bytesOf};
 ghost use Rattle.record.specs.Births.{factory, poweredOn};
-ghost use Rattle.record.specs.Place.{Sound, Turns};
+ghost use Rattle.record.specs.InPlace.{Sound, Turns};
 use record::places::AT_FLAGS;
 use record::places::AT_NAME;
-use record::places::AT_NAME_BYTES;
+use record::places::AT_NAME_LENGTH;
 use record::places::AT_OUTPUTS;
-use record::places::AT_PENDING;
+use record::places::AT_PENDING_LENGTH;
 use record::places::AT_SIZE;
 use record::places::AT_TRIES;
 use record::places::OPENED;
@@ -49,12 +49,12 @@ pub fn write_factory(rec: &mut [u8])
     ];
     clear(rec, 0, RECORD_SIZE);
     put_in(rec, AT_SIZE, &head);
-    rec[AT_NAME] = 11;
-    put_in(rec, AT_NAME_BYTES, b"GSV-6BT_dev");
+    rec[AT_NAME_LENGTH] = 11;
+    put_in(rec, AT_NAME, b"GSV-6BT_dev");
 }
 
 // What power-on makes of a record.
-pub fn switch_on(rec: &mut [u8])
+pub fn power_on(rec: &mut [u8])
     requires { ⌜ Sound (now rec) ⌝ }
     ensures { λ _. ⌜ Turns (now (rec .entry)) (now (rec .exit)) (λ r. poweredOn r) ⌝ }
 {
@@ -62,5 +62,5 @@ pub fn switch_on(rec: &mut [u8])
     rec[AT_FLAGS] |= SENDING;
     rec[AT_TRIES] = 0;
     rec[AT_OUTPUTS] = 0;
-    clear(rec, AT_PENDING, RECORD_SIZE);
+    clear(rec, AT_PENDING_LENGTH, RECORD_SIZE);
 }

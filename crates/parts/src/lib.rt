@@ -8,11 +8,11 @@ ghost use lib.Seq.{sets};
 ghost use Rattle.wire.specs.Numbers.{bytesAt};
 ghost use Rattle.wire.specs.Zeros.{beforeZero};
 ghost use Rattle.record.specs.Record.{withName, withSettings, withModel, withPending};
-ghost use Rattle.record.specs.Layout.{NamePart, ModelPart, nameRoom, modelRoom, atName};
-ghost use Rattle.record.specs.Place.{SoundAt, SoundPending, TurnsAt, TurnsPending};
+ghost use Rattle.record.specs.Layout.{NamePart, ModelPart, nameRoom, modelRoom, atNameLength};
+ghost use Rattle.record.specs.InPlace.{SoundAt, SoundPending, TurnsAt, TurnsPending};
 use record::places::AT_MODEL;
 use record::places::AT_NAME;
-use record::places::AT_NAME_BYTES;
+use record::places::AT_NAME_LENGTH;
 use record::places::MODEL_ROOM;
 use wire::buffer::clear;
 use wire::buffer::put_in;
@@ -28,12 +28,12 @@ fn put_part(rec: &mut [u8], at: usize, end: usize, p: &[u8])
 }
 
 pub fn set_name(rec: &mut [u8], p: &[u8])
-    requires { ⌜ SoundAt NamePart atName (now rec) ⌝ }
+    requires { ⌜ SoundAt NamePart atNameLength (now rec) ⌝ }
     requires { ⌜ length (now p) ≤ nameRoom ⌝ }
-    ensures { λ _. ⌜ TurnsAt NamePart atName (now (rec .entry)) (now (rec .exit)) (λ r. withSettings r (withName (r .settings) (now (p .entry)))) ⌝ }
+    ensures { λ _. ⌜ TurnsAt NamePart atNameLength (now (rec .entry)) (now (rec .exit)) (λ r. withSettings r (withName (r .settings) (now (p .entry)))) ⌝ }
 {
-    rec[AT_NAME] = p.len() as u8;
-    put_part(rec, AT_NAME_BYTES, AT_MODEL, p);
+    rec[AT_NAME_LENGTH] = p.len() as u8;
+    put_part(rec, AT_NAME, AT_MODEL, p);
 }
 
 // At the place that the layout gives the model.

@@ -19,7 +19,7 @@ use Rattle.peak.proofs.PairLaws.{both, fit}
 use Rattle.record.specs.Record.{Record, withFlags, withReading, withPairs}
 use Rattle.record.specs.Layout.{recordSize, channels, atFlags, atPairs, nibble, bitOf, bytesOf, recordOf}
 use Rattle.record.specs.Form.{InRange}
-use Rattle.record.specs.Place.{Sound}
+use Rattle.record.specs.InPlace.{Sound}
 use Rattle.record.specs.Reading.{readingOf}
 use Rattle.record.proofs.Choices.{switch}
 use Rattle.record.proofs.Parts.{Words, word-lt, pairs-shift, elements, elements-all}

@@ -9,7 +9,7 @@ ghost use Rattle.wire.specs.Numbers.{wordAt, bytes4};
 ghost use Rattle.peak.specs.Pairs.{finite, allFinite, pairAt};
 ghost use Rattle.peak.specs.Floats.{floatOf, peakOf};
 ghost use Rattle.record.specs.Layout.{channels, atFlags, bytesOf, recordOf};
-ghost use Rattle.record.specs.Place.{Sound};
+ghost use Rattle.record.specs.InPlace.{Sound};
 ghost use Rattle.record.specs.Reading.{readingOf};
 ghost use Rattle.reading.specs.Decoded.{decodedAt, There, Numbers, AllNumbers, seenPeak, afterReading, peakBytes, putBack};
 use crate::Decoded;

@@ -11,7 +11,7 @@ use lib.Dec.{eqb}
 use borrow.Author.Tests.{eqb-true}
 use Rattle.wire.specs.Numbers.{bytesAt}
 use Rattle.wire.proofs.NumberLaws.{length-part, part-all}
-use Rattle.record.specs.Layout.{Part, FlagByte, CodeWord, same, has, lay, Plan, width, place, planSize, piece}
+use Rattle.record.specs.Layout.{Part, FlagByte, CodeWord, same, has, lay, Plan, width, place, planSize, partIn}
 use Rattle.record.specs.Laid.{Laid}
 use Rattle.record.specs.Form.{Field, field, allFine, testsOf, testsBy, readingBy, fieldsIn, wellIn, NoFault, FaultAt, firstFault, faultIn}
 use Rattle.record.proofs.Layouts.{same-is, has-first, has-later, upd, lay-part, lay-store, cut-lay}
@@ -87,17 +87,17 @@ module _ (p : Plan) (l : Laid p) (s : List ℕ) (v : List ℕ) (four : length v 
   pub code-blind : length s ≡ planSize p → fieldsIn p (sets s (place p CodeWord) v) ≡ fieldsIn p s
   code-blind long =
       let t = sets s (place p CodeWord) v in
-      let other : (q : Part) → has (p .parts) q ≡ true → same CodeWord q ≡ false → piece p t q ≡ piece p s q =
+      let other : (q : Part) → has (p .parts) q ≡ true → same CodeWord q ≡ false → partIn p t q ≡ partIn p s q =
       λ q e n. ap (λ (c : List ℕ). cond (has (p .parts) q) c []) (others p l s long CodeWord core v four q e n) in
-      let flags : piece p t FlagByte ≡ piece p s FlagByte = other FlagByte (ap (λ (b : List Bool). getD b 2 true) (l .core)) refl in
-      tests-same (λ q. testsOf p (readingBy (piece p t FlagByte)) (place p q) (piece p t q) q) (λ q. testsOf p (readingBy (piece p s FlagByte)) (place p q) (piece p s q) q) (p .parts)
+      let flags : partIn p t FlagByte ≡ partIn p s FlagByte = other FlagByte (ap (λ (b : List Bool). getD b 2 true) (l .core)) refl in
+      tests-same (λ q. testsOf p (readingBy (partIn p t FlagByte)) (place p q) (partIn p t q) q) (λ q. testsOf p (readingBy (partIn p s FlagByte)) (place p q) (partIn p s q) q) (p .parts)
       (λ q e. each q e (same CodeWord q) refl (other q e) flags)
     where
-      each : (q : Part) → has (p .parts) q ≡ true → (b : Bool) → same CodeWord q ≡ b → (same CodeWord q ≡ false → piece p (sets s (place p CodeWord) v) q ≡ piece p s q)
-          → piece p (sets s (place p CodeWord) v) FlagByte ≡ piece p s FlagByte
-          → testsOf p (readingBy (piece p (sets s (place p CodeWord) v) FlagByte)) (place p q) (piece p (sets s (place p CodeWord) v) q) q ≡ testsOf p (readingBy (piece p s FlagByte)) (place p q) (piece p s q) q
+      each : (q : Part) → has (p .parts) q ≡ true → (b : Bool) → same CodeWord q ≡ b → (same CodeWord q ≡ false → partIn p (sets s (place p CodeWord) v) q ≡ partIn p s q)
+          → partIn p (sets s (place p CodeWord) v) FlagByte ≡ partIn p s FlagByte
+          → testsOf p (readingBy (partIn p (sets s (place p CodeWord) v) FlagByte)) (place p q) (partIn p (sets s (place p CodeWord) v) q) q ≡ testsOf p (readingBy (partIn p s FlagByte)) (place p q) (partIn p s q) q
       each q e true n f g =
-          subst (λ (y : Part). testsOf p (readingBy (piece p (sets s (place p CodeWord) v) FlagByte)) (place p y) (piece p (sets s (place p CodeWord) v) y) y ≡ testsOf p (readingBy (piece p s FlagByte)) (place p y) (piece p s y) y) (same-is CodeWord q n) refl
+          subst (λ (y : Part). testsOf p (readingBy (partIn p (sets s (place p CodeWord) v) FlagByte)) (place p y) (partIn p (sets s (place p CodeWord) v) y) y ≡ testsOf p (readingBy (partIn p s FlagByte)) (place p y) (partIn p s y) y) (same-is CodeWord q n) refl
       each q e false n f g = ap₂ (λ (a b : List ℕ). testsOf p (readingBy a) (place p q) b q) g (f n)
 
   pub code-fault : faultIn p (sets s (place p CodeWord) v) ≡ faultIn p s

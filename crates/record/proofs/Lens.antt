@@ -6,7 +6,7 @@ use Rattle.wire.specs.Numbers.{wordAt, bytes2, bytes4, bytesAt}
 use Rattle.wire.proofs.NumberLaws.{word-back}
 use Rattle.peak.specs.Pairs.{noPair, pairBytes}
 use Rattle.record.specs.Record.{Flags, Record, withFlags}
-use Rattle.record.specs.Layout.{current, recordSize, channels, atFlags, atTries, atCode, atPower, atFilter, atName, atPending, atPairs, flagsByte, bytesOf}
+use Rattle.record.specs.Layout.{current, recordSize, channels, atFlags, atTries, atCode, atPower, atFilter, atNameLength, atPendingLength, atPairs, flagsByte, bytesOf}
 use Rattle.record.proofs.Plans.{laid}
 use Rattle.record.proofs.Stores.{get-pairIn}
 
@@ -38,11 +38,11 @@ pub get-filter-bytes : (r : Record) → bytesAt 4 (bytesOf r) atFilter ≡ bytes
 unfolding bytesOf
 get-filter-bytes r = refl
 
-pub get-name-length : (r : Record) → getD (bytesOf r) atName 0 ≡ length (r .settings .name)
+pub get-name-length : (r : Record) → getD (bytesOf r) atNameLength 0 ≡ length (r .settings .name)
 unfolding bytesOf
 get-name-length r = refl
 
-pub get-pending-length : (r : Record) → getD (bytesOf r) atPending 0 ≡ length (r .pending)
+pub get-pending-length : (r : Record) → getD (bytesOf r) atPendingLength 0 ≡ length (r .pending)
 unfolding bytesOf
 get-pending-length r = refl
 

@@ -9,7 +9,7 @@ pub mod Lens
 pub mod Bounds
 pub mod Births
 pub mod Reading
-pub mod PlaceLaws
+pub mod InPlaceLaws
 pub mod Whole
 pub mod Faults
 pub mod Convert

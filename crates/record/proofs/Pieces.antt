@@ -19,7 +19,7 @@ use Rattle.wire.proofs.NumberLaws.{half-back, word-back, length-part, part-all,
 use Rattle.peak.specs.Pairs.{Pair, noPair, pairAt, pairsAt, pairBytes, pairsBytes, pairFits}
 use Rattle.record.specs.Record.{Outputs, Record}
 use Rattle.record.specs.Limits.{powerRange, stepRange, modeRange, onOffRange, inputRange, intervalRange, filterRange, nameRange}
-use Rattle.record.specs.Layout.{Part, SizeBytes, VersionByte, FlagByte, TriesByte, CodeWord, PowerHalf, StepByte, ModeByte, OnOffByte, InputBytes, OutputByte, IntervalByte, FilterWord, NamePart, ModelPart, PendingPart, PairsPart, CounterHalf, has, Plan, width, place, planSize, flagsByte, outputsByte, bitOf, chunk, valueOf}
+use Rattle.record.specs.Layout.{Part, SizeBytes, VersionByte, FlagByte, TriesByte, CodeWord, PowerHalf, StepByte, ModeByte, OnOffByte, InputBytes, OutputByte, IntervalByte, FilterWord, NamePart, ModelPart, PendingPart, PairsPart, CounterHalf, has, Plan, width, place, planSize, flagsByte, outputsByte, bitOf, partBytes, valueOf}
 use Rattle.record.specs.Form.{Field, field, several, allFine, flagsFit, testsOf, readingBy, Unless, Silent, InRangeIn}
 use Rattle.record.proofs.Choices.{nibble-below, nibble-back, bits-back, even-is}
 use Rattle.record.proofs.Parts.{Words, shift, part-drop, word-lt, words-lt, half-at, word-at, part-back, rest-zero, pad-take, cut-cut, cut-bytes, cut-le, cut-back, cut-behind, pad-cut, pair-part, pair-back, pairs-part, pairs-shift}
@@ -93,7 +93,7 @@ fits-is Small e = absurd (false≢true e)
 pub behind-length : (n k : ℕ) (l : List ℕ) → bytesAt n (k ∷ bytesAt n l 0) 1 ≡ bytesAt n l 0
 behind-length n k l = shift n k (bytesAt n l 0) 0 ∙ part-all n (bytesAt n l 0) (length-part n l 0)
 
-pub chunk-long : (p : Plan) (r : Record) (q : Part) → length (chunk p r q) ≡ width p q
+pub chunk-long : (p : Plan) (r : Record) (q : Part) → length (partBytes p r q) ≡ width p q
 chunk-long p r SizeBytes = refl
 chunk-long p r VersionByte = refl
 chunk-long p r FlagByte = refl
@@ -183,7 +183,7 @@ module _ (p : Plan) (l : Laid p) where
     low : byte < 16
     low = nibble-below (r .flags .opened) (r .flags .unlocked) (r .flags .sending) (r .flags .reading)
 
-    pub chunk-fine : (at : ℕ) (q : Part) → allFine (testsOf p (r .flags .reading) at (chunk p r q) q) ≡ true
+    pub chunk-fine : (at : ℕ) (q : Part) → allFine (testsOf p (r .flags .reading) at (partBytes p r q) q) ≡ true
     chunk-fine at SizeBytes = one _ (eq-eqb (halfAt (bytes2 (planSize p)) 0) (planSize p) (half-back (planSize p) (l .size)))
     chunk-fine at VersionByte = one _ (eq-eqb (p .version) (p .version) refl)
     chunk-fine at FlagByte =
@@ -206,9 +206,9 @@ module _ (p : Plan) (l : Laid p) where
     chunk-fine at PendingPart =
         let n = l .short (r .pending) (h .pending) in
         let e = behind-length (p .room) (length (r .pending)) (r .pending) in
-        let waiting : waits (p .heads) (take (length (r .pending)) (bytesAt (p .room) (chunk p r PendingPart) 1)) ≡ true =
+        let waiting : waits (p .heads) (take (length (r .pending)) (bytesAt (p .room) (partBytes p r PendingPart) 1)) ≡ true =
         ap (λ (t : List ℕ). waits (p .heads) (take (length (r .pending)) t)) e ∙ ap (waits (p .heads)) (part-back (p .room) (r .pending) n) ∙ h .pending in
-        let rest : allZero (drop (length (r .pending)) (bytesAt (p .room) (chunk p r PendingPart) 1)) ≡ true = ap (λ (t : List ℕ). allZero (drop (length (r .pending)) t)) e ∙ rest-zero (p .room) (r .pending) n in
+        let rest : allZero (drop (length (r .pending)) (bytesAt (p .room) (partBytes p r PendingPart) 1)) ≡ true = ap (λ (t : List ℕ). allZero (drop (length (r .pending)) t)) e ∙ rest-zero (p .room) (r .pending) n in
         λ i. le-leb (length (r .pending)) (p .room) n i && ((waiting i && rest i) && true)
     chunk-fine at PairsPart =
         several-all (λ k. pairFits (r .flags .reading) (pairAt (pairsBytes (p .channels) (r .pairs) 0) k)) at (p .channels) 0
@@ -219,7 +219,7 @@ module _ (p : Plan) (l : Laid p) where
 
   -- what a record has at a part that the layout has, or none
   abbrev pub present : Record → Part → List ℕ
-  present r q = cond (has (p .parts) q) (chunk p r q) []
+  present r q = cond (has (p .parts) q) (partBytes p r q) []
 
   core-has : (k : ℕ) → getD (each (has (p .parts)) coreParts) k true ≡ getD (each (λ q. true) coreParts) k true
   core-has k = ap (λ (b : List Bool). getD b k true) (l .core)
@@ -233,11 +233,11 @@ module _ (p : Plan) (l : Laid p) where
   read-by read false c x e f = f refl
 
   module _ (r : Record) (h : InRangeIn p r) where
-    read-core : {A : Type 0} (q : Part) (read : List ℕ → A) (x : A) → has (p .parts) q ≡ true → read (chunk p r q) ≡ x → read (present r q) ≡ x
-    read-core q read x t e = read-by read (has (p .parts) q) (chunk p r q) x e (λ f. absurd (false≢true (sym f ∙ t)))
+    read-core : {A : Type 0} (q : Part) (read : List ℕ → A) (x : A) → has (p .parts) q ≡ true → read (partBytes p r q) ≡ x → read (present r q) ≡ x
+    read-core q read x t e = read-by read (has (p .parts) q) (partBytes p r q) x e (λ f. absurd (false≢true (sym f ∙ t)))
 
-    read-radio : {A : Type 0} (q : Part) (read : List ℕ → A) (x : A) → has (p .parts) q ≡ has (p .parts) PowerHalf → read (chunk p r q) ≡ x → (Silent (r .settings) (r .outputs) → read [] ≡ x) → read (present r q) ≡ x
-    read-radio q read x t e f = read-by read (has (p .parts) q) (chunk p r q) x e (λ g. f (unless-is (has (p .parts) PowerHalf) (h .silent) (sym t ∙ g)))
+    read-radio : {A : Type 0} (q : Part) (read : List ℕ → A) (x : A) → has (p .parts) q ≡ has (p .parts) PowerHalf → read (partBytes p r q) ≡ x → (Silent (r .settings) (r .outputs) → read [] ≡ x) → read (present r q) ≡ x
+    read-radio q read x t e f = read-by read (has (p .parts) q) (partBytes p r q) x e (λ g. f (unless-is (has (p .parts) PowerHalf) (h .silent) (sym t ∙ g)))
 
     pub read-present : valueOf p (present r) ≡ r
     unfolding valueOf
@@ -264,7 +264,7 @@ module _ (p : Plan) (l : Laid p) where
           model = read-core ModelPart (λ c. beforeZero (bytesAt 15 c 0)) (r .model) (core-has 6) (cut-back 15 (r .model) (h .model-length) (h .model)) i;
           pending = read-core PendingPart (λ c. take (getD c 0 0) (bytesAt (p .room) c 1)) (r .pending) (core-has 7) (ap (take (length (r .pending))) (behind-length (p .room) (length (r .pending)) (r .pending)) ∙ part-back (p .room) (r .pending) n) i;
           pairs = read-core PairsPart (λ c. pairsAt (p .channels) c 0) (r .pairs) (core-has 8) (pairs-read (p .channels) (r .pairs) (h .six) (h .words)) i;
-          counter = read-by (λ c. halfAt c 0) (has (p .parts) CounterHalf) (chunk p r CounterHalf) (r .counter) (half-back (r .counter) (h .counter)) (λ e. sym (unless-is (has (p .parts) CounterHalf) (h .uncounted) e)) i;
+          counter = read-by (λ c. halfAt c 0) (has (p .parts) CounterHalf) (partBytes p r CounterHalf) (r .counter) (half-back (r .counter) (h .counter)) (λ e. sym (unless-is (has (p .parts) CounterHalf) (h .uncounted) e)) i;
         }
 
   -- ---- the parts of well-formed bytes
@@ -295,7 +295,7 @@ module _ (p : Plan) (l : Laid p) where
         let w = and-eq-true-iff (ltb b 16) (p .opens || eqb (b % 2) 0) .0 (sym (flags-test (p .opens) b) ∙ test FlagByte t 0) in
         (ltb-true b 16 (w .0), w .1)
 
-    pub write-part : (q : Part) → has (p .parts) q ≡ true → chunk p (valueOf p c) q ≡ c q
+    pub write-part : (q : Part) → has (p .parts) q ≡ true → partBytes p (valueOf p c) q ≡ c q
     unfolding valueOf
     write-part SizeBytes t = sym (ap bytes2 (eqb-true (halfAt (c SizeBytes) 0) (planSize p) (test SizeBytes t 0))) ∙ half-is SizeBytes (g .long SizeBytes t)
     write-part VersionByte t = sym (ap (λ (x : ℕ). x ∷ []) (eqb-true (getD (c VersionByte) 0 0) (p .version) (test VersionByte t 0))) ∙ byte-is VersionByte (g .long VersionByte t)

@@ -11,7 +11,7 @@ use borrow.Author.Tests.{eq-eqb, eqb-true}
 use Rattle.wire.specs.Numbers.{Bytes, bytesAt}
 use Rattle.wire.proofs.NumberLaws.{length-part, part-all, bytes-part}
 use Rattle.record.specs.Record.{Record}
-use Rattle.record.specs.Layout.{Part, FlagByte, same, has, Plan, current, width, place, planSize, piece, chunk, valueOf, bytesIn, recordIn, bytesOf, recordOf}
+use Rattle.record.specs.Layout.{Part, FlagByte, same, has, Plan, current, width, place, planSize, partIn, partBytes, valueOf, bytesIn, recordIn, bytesOf, recordOf}
 use Rattle.record.specs.Form.{Field, allFine, testsOf, testsBy, readingBy, fieldsIn, wellIn, wellFormed, InRangeIn, InRange}
 use Rattle.record.proofs.Choices.{bits-back}
 use Rattle.record.proofs.Layouts.{has-first, has-later, same-is, lay-same, lay-long, lay-part, cut-lay}
@@ -44,20 +44,20 @@ module _ (p : Plan) (l : Laid p) where
   -- ---- a record from its bytes
 
   module _ (r : Record) where
-    pub get-part : (q : Part) → has (p .parts) q ≡ true → bytesAt (width p q) (bytesIn p r) (place p q) ≡ chunk p r q
+    pub get-part : (q : Part) → has (p .parts) q ≡ true → bytesAt (width p q) (bytesIn p r) (place p q) ≡ partBytes p r q
     unfolding bytesIn
-    get-part q e = lay-part (width p) (chunk p r) (chunk-long p r) q (p .parts) e
+    get-part q e = lay-part (width p) (partBytes p r) (chunk-long p r) q (p .parts) e
 
-    piece-is : (q : Part) → piece p (bytesIn p r) q ≡ present p l r q
+    piece-is : (q : Part) → partIn p (bytesIn p r) q ≡ present p l r q
     piece-is q = by (has (p .parts) q) refl
       where
-        by : (t : Bool) → has (p .parts) q ≡ t → cond t (bytesAt (width p q) (bytesIn p r) (place p q)) [] ≡ cond t (chunk p r q) []
+        by : (t : Bool) → has (p .parts) q ≡ t → cond t (bytesAt (width p q) (bytesIn p r) (place p q)) [] ≡ cond t (partBytes p r q) []
         by true e = get-part q e
         by false e = refl
 
     pub longIn : length (bytesIn p r) ≡ planSize p
     unfolding bytesIn
-    longIn = lay-long (width p) (chunk p r) (chunk-long p r) (p .parts)
+    longIn = lay-long (width p) (partBytes p r) (chunk-long p r) (p .parts)
 
     module _ (h : InRangeIn p r) where
       pub read-backIn : recordIn p (bytesIn p r) ≡ r
@@ -69,10 +69,10 @@ module _ (p : Plan) (l : Laid p) where
       well-formedIn =
           let s = bytesIn p r in
           let core : has (p .parts) FlagByte ≡ true = ap (λ (b : List Bool). getD b 2 true) (l .core) in
-          let there : (q : Part) → has (p .parts) q ≡ true → piece p s q ≡ chunk p r q = λ q e. ap (λ (t : Bool). cond t (bytesAt (width p q) s (place p q)) []) e ∙ get-part q e in
-          let reading : readingBy (piece p s FlagByte) ≡ r .flags .reading = ap readingBy (there FlagByte core) ∙ bits-back (r .flags .opened) (r .flags .unlocked) (r .flags .sending) (r .flags .reading) .3 in
+          let there : (q : Part) → has (p .parts) q ≡ true → partIn p s q ≡ partBytes p r q = λ q e. ap (λ (t : Bool). cond t (bytesAt (width p q) s (place p q)) []) e ∙ get-part q e in
+          let reading : readingBy (partIn p s FlagByte) ≡ r .flags .reading = ap readingBy (there FlagByte core) ∙ bits-back (r .flags .opened) (r .flags .unlocked) (r .flags .sending) (r .flags .reading) .3 in
           ap₂ (_&&_) (eq-eqb (length s) (planSize p) longIn)
-          (tests-all (λ q. testsOf p (readingBy (piece p s FlagByte)) (place p q) (piece p s q) q) (p .parts)
+          (tests-all (λ q. testsOf p (readingBy (partIn p s FlagByte)) (place p q) (partIn p s q) q) (p .parts)
           (λ q e. ap₂ (λ (b : Bool) (c : List ℕ). allFine (testsOf p b (place p q) c q)) reading (there q e) ∙ chunk-fine p l r h (place p q) q))
 
   -- ---- bytes of a record
@@ -82,36 +82,36 @@ module _ (p : Plan) (l : Laid p) where
     unfolding wellIn
     well = let w = and-eq-true-iff (eqb (length s) (planSize p)) (allFine (fieldsIn p s)) .0 e in (eqb-true (length s) (planSize p) (w .0), w .1)
 
-    there : (q : Part) → has (p .parts) q ≡ true → piece p s q ≡ bytesAt (width p q) s (place p q)
+    there : (q : Part) → has (p .parts) q ≡ true → partIn p s q ≡ bytesAt (width p q) s (place p q)
     there q t = ap (λ (t : Bool). cond t (bytesAt (width p q) s (place p q)) []) t
 
-    not-there : (q : Part) → has (p .parts) q ≡ false → piece p s q ≡ []
+    not-there : (q : Part) → has (p .parts) q ≡ false → partIn p s q ≡ []
     not-there q t = ap (λ (t : Bool). cond t (bytesAt (width p q) s (place p q)) []) t
 
-    piece-bytes : (q : Part) → Bytes (piece p s q)
+    piece-bytes : (q : Part) → Bytes (partIn p s q)
     piece-bytes q = by (has (p .parts) q)
       where
         by : (t : Bool) → Bytes (cond t (bytesAt (width p q) s (place p q)) [])
         by true = bytes-part (width p q) s (place p q) b
         by false = λ i. omega arith
 
-    pieces : Cut p l (piece p s)
+    pieces : Cut p l (partIn p s)
     pieces = record {
       long = λ q t. ap length (there q t) ∙ length-part (width p q) s (place p q);
       none = not-there;
       bytes = piece-bytes;
-      fine = tests-each (λ q. testsOf p (readingBy (piece p s FlagByte)) (place p q) (piece p s q) q) (p .parts) (well .1);
+      fine = tests-each (λ q. testsOf p (readingBy (partIn p s FlagByte)) (place p q) (partIn p s q) q) (p .parts) (well .1);
     }
 
     pub in-rangeIn : InRangeIn p (recordIn p s)
     unfolding recordIn
-    in-rangeIn = value-in p l (piece p s) pieces
+    in-rangeIn = value-in p l (partIn p s) pieces
 
     pub write-backIn : bytesIn p (recordIn p s) ≡ s
     unfolding bytesIn recordIn
     write-backIn =
-        lay-same (chunk p (valueOf p (piece p s))) (λ q. bytesAt (width p q) s (0 + place p q)) (p .parts)
-        (λ q t. write-part p l (piece p s) pieces q t ∙ there q t ∙ ap (bytesAt (width p q) s) (sym (zero-add (place p q))))
+        lay-same (partBytes p (valueOf p (partIn p s))) (λ q. bytesAt (width p q) s (0 + place p q)) (p .parts)
+        (λ q t. write-part p l (partIn p s) pieces q t ∙ there q t ∙ ap (bytesAt (width p q) s) (sym (zero-add (place p q))))
         ∙ cut-lay (width p) s (p .parts) (l .apart) 0 ∙ part-all (planSize p) s (well .0)
 
 -- ---- the current version

@@ -13,7 +13,7 @@ use Rattle.wire.specs.Numbers.{bytes2, bytes4, bytesAt}
 use Rattle.wire.proofs.NumberLaws.{length-part, part-all}
 use Rattle.peak.specs.Pairs.{Pair, noPair, pairBytes}
 use Rattle.record.specs.Record.{Flags, Record, withOutput, withPower, withStep, withMode, withOnOff, withInputs, withInterval, withFilter, withName, withFlags, withTries, withCode, withSettings, withOutputs, withModel, withPending, withPairs, withCounter}
-use Rattle.record.specs.Layout.{Part, FlagByte, TriesByte, CodeWord, PowerHalf, StepByte, ModeByte, OnOffByte, InputBytes, OutputByte, IntervalByte, FilterWord, NamePart, ModelPart, PendingPart, PairsPart, CounterHalf, allParts, has, Plan, nameRoom, width, place, flagsByte, outputsByte, chunk, bytesIn}
+use Rattle.record.specs.Layout.{Part, FlagByte, TriesByte, CodeWord, PowerHalf, StepByte, ModeByte, OnOffByte, InputBytes, OutputByte, IntervalByte, FilterWord, NamePart, ModelPart, PendingPart, PairsPart, CounterHalf, allParts, has, Plan, nameRoom, width, place, flagsByte, outputsByte, partBytes, bytesIn}
 use Rattle.record.proofs.Choices.{masked, switch}
 use Rattle.record.proofs.Parts.{part-at, sets-cons, pairs-part, pairs-set}
 use Rattle.record.specs.Laid.{each, Laid, coreParts}
@@ -40,15 +40,15 @@ sets-over (y ∷ a) (x ∷ v) e = sets-cons x a 0 v ∙ ap (λ (t : List ℕ). x
 module _ (p : Plan) (l : Laid p) where
   -- a store within a part: the record t is r but for that part, which all parts say by computing
   pub store : (r t : Record) (q : Part) → has (p .parts) q ≡ true → (j : ℕ) (v : List ℕ) → j + length v ≤ width p q
-      → each (upd q (sets (chunk p r q) j v) (chunk p r)) allParts ≡ each (chunk p t) allParts → sets (bytesIn p r) (place p q + j) v ≡ bytesIn p t
+      → each (upd q (sets (partBytes p r q) j v) (partBytes p r)) allParts ≡ each (partBytes p t) allParts → sets (bytesIn p r) (place p q + j) v ≡ bytesIn p t
   unfolding bytesIn
   store r t q e j v h same =
-      lay-store (width p) (chunk p r) (chunk-long p r) q (p .parts) (l .apart) e j v h
-      ∙ lay-same (upd q (sets (chunk p r q) j v) (chunk p r)) (chunk p t) (p .parts) (λ x k. all-same (upd q (sets (chunk p r q) j v) (chunk p r)) (chunk p t) same x)
+      lay-store (width p) (partBytes p r) (chunk-long p r) q (p .parts) (l .apart) e j v h
+      ∙ lay-same (upd q (sets (partBytes p r q) j v) (partBytes p r)) (partBytes p t) (p .parts) (λ x k. all-same (upd q (sets (partBytes p r q) j v) (partBytes p r)) (partBytes p t) same x)
 
   -- from the first byte of the part on
   pub store-all : (r t : Record) (q : Part) → has (p .parts) q ≡ true → (v : List ℕ) → length v ≤ width p q
-      → each (upd q (sets (chunk p r q) 0 v) (chunk p r)) allParts ≡ each (chunk p t) allParts → sets (bytesIn p r) (place p q) v ≡ bytesIn p t
+      → each (upd q (sets (partBytes p r q) 0 v) (partBytes p r)) allParts ≡ each (partBytes p t) allParts → sets (bytesIn p r) (place p q) v ≡ bytesIn p t
   store-all r t q e v h same = ap (λ (k : ℕ). sets (bytesIn p r) k v) (sym (add-zero (place p q))) ∙ store r t q e 0 v (omega (arith, h)) same
 
   core : (k : ℕ) → getD (each (has (p .parts)) coreParts) k true ≡ getD (each (λ q. true) coreParts) k true
@@ -105,7 +105,7 @@ module _ (p : Plan) (l : Laid p) where
         let part : sets (length (r .pending) ∷ bytesAt (p .room) (r .pending) 0) 0 (length v ∷ bytesAt (p .room) v 0) ≡ length v ∷ bytesAt (p .room) v 0 = sets-over (length (r .pending) ∷ bytesAt (p .room) (r .pending) 0) (length v ∷ bytesAt (p .room) v 0) (ap suc (length-part (p .room) (r .pending) 0 ∙ sym room)) in
         ap (λ (k : ℕ). sets (set (bytesIn p r) (place p PendingPart) (length v)) k (bytesAt (p .room) v 0)) (add-one (place p PendingPart))
         ∙ store-all r (withPending r v) PendingPart (core 7) (length v ∷ bytesAt (p .room) v 0) (omega (arith, room))
-        (ap (λ (x : List ℕ). each (upd PendingPart x (chunk p r)) allParts) part)
+        (ap (λ (x : List ℕ). each (upd PendingPart x (partBytes p r)) allParts) part)
 
     pub get-pairIn : (k : ℕ) → k < p .channels → bytesAt 8 (bytesIn p r) (place p PairsPart + 8 * k) ≡ pairBytes (getD (r .pairs) k noPair)
     get-pairIn k h =
@@ -116,7 +116,7 @@ module _ (p : Plan) (l : Laid p) where
     unfolding withPairs
     set-pairIn k v h e =
         store r (withPairs r (set (r .pairs) k v)) PairsPart (core 8) (8 * k) (pairBytes v) (omega arith)
-        (ap (λ (x : List ℕ). each (upd PairsPart x (chunk p r)) allParts) (pairs-set (p .channels) (r .pairs) k v e h))
+        (ap (λ (x : List ℕ). each (upd PairsPart x (partBytes p r)) allParts) (pairs-set (p .channels) (r .pairs) k v e h))
 
     -- ---- the radio's parts, where they are
 
@@ -145,7 +145,7 @@ module _ (p : Plan) (l : Laid p) where
     set-inputIn there k v h five =
         let g = r .settings .inputs in
         let e : set (bytesAt 5 g 0) k v ≡ bytesAt 5 (set g k v) 0 = ap (λ (s : List ℕ). set s k v) (part-all 5 g five) ∙ sym (part-all 5 (set g k v) (length-set g k v ∙ five)) in
-        store r (withSettings r (withInputs (r .settings) (set g k v))) InputBytes there k (v ∷ []) (omega arith) (ap (λ (x : List ℕ). each (upd InputBytes x (chunk p r)) allParts) e)
+        store r (withSettings r (withInputs (r .settings) (set g k v))) InputBytes there k (v ∷ []) (omega arith) (ap (λ (x : List ℕ). each (upd InputBytes x (partBytes p r)) allParts) e)
 
     -- output k, 1 to 4, by its mask
     pub set-outputIn : has (p .parts) OutputByte ≡ true → (k : ℕ) (v : Bool) → 1 ≤ k → k ≤ 4

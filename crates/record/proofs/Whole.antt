@@ -16,7 +16,7 @@ use Rattle.wire.proofs.NumberLaws.{bytes-part, bytes-append}
 use Rattle.peak.specs.Pairs.{Pair, noPair, pairBytes, pairsBytes}
 use Rattle.record.specs.Record.{Record, withCode}
 use Rattle.record.specs.Limits.{nameRange, intervalRange}
-use Rattle.record.specs.Layout.{Part, SizeBytes, VersionByte, FlagByte, TriesByte, CodeWord, PowerHalf, StepByte, ModeByte, OnOffByte, InputBytes, OutputByte, IntervalByte, FilterWord, NamePart, ModelPart, PendingPart, PairsPart, CounterHalf, Plan, current, planSize, lay, flagsByte, outputsByte, chunk, bytesIn, bytesOf}
+use Rattle.record.specs.Layout.{Part, SizeBytes, VersionByte, FlagByte, TriesByte, CodeWord, PowerHalf, StepByte, ModeByte, OnOffByte, InputBytes, OutputByte, IntervalByte, FilterWord, NamePart, ModelPart, PendingPart, PairsPart, CounterHalf, Plan, current, planSize, lay, flagsByte, outputsByte, partBytes, bytesIn, bytesOf}
 use Rattle.record.specs.Form.{InRangeIn, InRange}
 use Rattle.record.proofs.Choices.{nibble-below}
 use Rattle.record.specs.Laid.{Laid}
@@ -82,7 +82,7 @@ pairs-all (suc n) ps i =
     append (pairBytes p) _ (append (bytes4 (p .greatest)) _ (word-all (p .greatest) .bytes) (word-all (p .smallest)) .bytes) (pairs-all n ps (suc i))
 
 module _ (p : Plan) (l : Laid p) (r : Record) (h : InRangeIn p r) where
-  part-bytes : (q : Part) → Each (chunk p r q)
+  part-bytes : (q : Part) → Each (partBytes p r q)
   part-bytes SizeBytes = half-all (planSize p)
   part-bytes VersionByte = cons (p .version) [] (l .version) none
   part-bytes FlagByte = let f = r .flags in cons (flagsByte f) [] (omega (arith, nibble-below (f .opened) (f .unlocked) (f .sending) (f .reading))) none
@@ -103,9 +103,9 @@ module _ (p : Plan) (l : Laid p) (r : Record) (h : InRangeIn p r) where
   part-bytes PairsPart = pairs-all (p .channels) (r .pairs) 0
   part-bytes CounterHalf = half-all (r .counter)
 
-  whole : (ps : List Part) → Each (lay (chunk p r) ps)
+  whole : (ps : List Part) → Each (lay (partBytes p r) ps)
   whole [] = none
-  whole (q ∷ ps) = append (chunk p r q) (lay (chunk p r) ps) (part-bytes q .bytes) (whole ps)
+  whole (q ∷ ps) = append (partBytes p r q) (lay (partBytes p r) ps) (part-bytes q .bytes) (whole ps)
 
   pub bytes-bytesIn : Bytes (bytesIn p r)
   unfolding bytesIn

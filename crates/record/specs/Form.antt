@@ -14,7 +14,7 @@ use Rattle.wire.specs.declared.Range.the-variants.{Fits}
 use Rattle.peak.specs.Pairs.{noPair, pairFits, pairAt, key}
 use Rattle.record.specs.Record.{Outputs, Settings, Record}
 use Rattle.record.specs.Limits.{powerRange, stepRange, modeRange, onOffRange, inputRange, intervalRange, filterRange, nameRange}
-use Rattle.record.specs.Layout.{Part, SizeBytes, VersionByte, FlagByte, TriesByte, CodeWord, PowerHalf, StepByte, ModeByte, OnOffByte, InputBytes, OutputByte, IntervalByte, FilterWord, NamePart, ModelPart, PendingPart, PairsPart, CounterHalf, Plan, nameRoom, modelRoom, current, has, place, piece, planSize, bitOf}
+use Rattle.record.specs.Layout.{Part, SizeBytes, VersionByte, FlagByte, TriesByte, CodeWord, PowerHalf, StepByte, ModeByte, OnOffByte, InputBytes, OutputByte, IntervalByte, FilterWord, NamePart, ModelPart, PendingPart, PairsPart, CounterHalf, Plan, nameRoom, modelRoom, current, has, place, partIn, planSize, bitOf}
 use Rattle.record.specs.declared.Form.{Form}
 use Rattle.record.specs.declared.Form.the-variants.{Good, Bad}
 
@@ -80,7 +80,7 @@ readingBy c = bitOf (getD c 0 0) 8
 
 -- the fields of some parts, and all fields in record order
 abbrev pub fieldsAt : Plan → List ℕ → List Part → List Field
-fieldsAt p s qs = testsBy (λ q. testsOf p (readingBy (piece p s FlagByte)) (place p q) (piece p s q) q) qs
+fieldsAt p s qs = testsBy (λ q. testsOf p (readingBy (partIn p s FlagByte)) (place p q) (partIn p s q) q) qs
 
 abbrev pub fieldsIn : Plan → List ℕ → List Field
 fieldsIn p s = fieldsAt p s (p .parts)

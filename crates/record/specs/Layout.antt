@@ -9,7 +9,7 @@ use Rattle.wire.specs.Numbers.{halfAt, wordAt, bytes2, bytes4, bytesAt}
 use Rattle.wire.specs.Zeros.{beforeZero}
 use Rattle.wire.specs.Sizes.{waitMost}
 use Rattle.wire.specs.Frames.{Heads}
-use Rattle.wire.specs.Serial.{Fixed, Bad, fronted, closed, serial}
+use Rattle.wire.specs.Serial.{Fixed, NotHead, fronted, endsIn85, serial}
 use Rattle.peak.specs.Pairs.{pairsAt, pairsBytes}
 use Rattle.record.specs.Record.{Flags, Outputs, Record}
 
@@ -132,8 +132,8 @@ abbrev pub place : Plan → Part → ℕ
 place p q = placeOf (width p) (p .parts) q
 
 -- the bytes of a part, none if it is not there
-abbrev pub piece : Plan → List ℕ → Part → List ℕ
-piece p s q = cond (has (p .parts) q) (bytesAt (width p q) s (place p q)) []
+abbrev pub partIn : Plan → List ℕ → Part → List ℕ
+partIn p s q = cond (has (p .parts) q) (bytesAt (width p q) s (place p q)) []
 
 -- ---- the layouts
 
@@ -155,7 +155,7 @@ plan3 = record { version = 3; room = 19; heads = serial; channels = 6; filters =
 
 -- amplifier commands alone, 9n
 unfoldable pub seatHeads : Heads
-seatHeads = fronted (λ b. cond (leb 0x90 b && leb b 0x9F) (Fixed (b % 16)) Bad) closed
+seatHeads = fronted (λ b. cond (leb 0x90 b && leb b 0x9F) (Fixed (b % 16)) NotHead) endsIn85
 
 -- a board without radio: eight channels, 16 filter bits, no configuration mode
 abbrev pub seat : Plan
@@ -221,22 +221,22 @@ atInterval = place current IntervalByte
 abbrev pub atFilter : ℕ
 atFilter = place current FilterWord
 
-abbrev pub atName : ℕ
-atName = place current NamePart
+abbrev pub atNameLength : ℕ
+atNameLength = place current NamePart
 
 -- behind its length
-abbrev pub atNameBytes : ℕ
-atNameBytes = atName + 1
+abbrev pub atName : ℕ
+atName = atNameLength + 1
 
 abbrev pub atModel : ℕ
 atModel = place current ModelPart
 
-abbrev pub atPending : ℕ
-atPending = place current PendingPart
+abbrev pub atPendingLength : ℕ
+atPendingLength = place current PendingPart
 
 -- behind their length
-abbrev pub atWaiting : ℕ
-atWaiting = atPending + 1
+abbrev pub atPending : ℕ
+atPending = atPendingLength + 1
 
 abbrev pub atPairs : ℕ
 atPairs = place current PairsPart
@@ -264,28 +264,28 @@ bitOf b unit = eqb (b / unit % 2) 1
 
 -- ---- the bytes of a record, part by part; what is shorter than its room has zeros behind it
 
-abbrev pub chunk : Plan → Record → Part → List ℕ
-chunk p r SizeBytes = bytes2 (planSize p)
-chunk p r VersionByte = p .version ∷ []
-chunk p r FlagByte = flagsByte (r .flags) ∷ []
-chunk p r TriesByte = r .tries ∷ []
-chunk p r CodeWord = bytes4 (r .code)
-chunk p r PowerHalf = bytes2 (r .settings .power)
-chunk p r StepByte = r .settings .step ∷ []
-chunk p r ModeByte = r .settings .mode ∷ []
-chunk p r OnOffByte = r .settings .onOff ∷ []
-chunk p r InputBytes = bytesAt 5 (r .settings .inputs) 0
-chunk p r OutputByte = outputsByte (r .outputs) ∷ []
-chunk p r IntervalByte = r .settings .interval ∷ []
-chunk p r FilterWord = bytes4 (r .settings .filter)
-chunk p r NamePart = length (r .settings .name) ∷ bytesAt nameRoom (r .settings .name) 0
-chunk p r ModelPart = bytesAt modelRoom (r .model) 0
-chunk p r PendingPart = length (r .pending) ∷ bytesAt (p .room) (r .pending) 0
-chunk p r PairsPart = pairsBytes (p .channels) (r .pairs) 0
-chunk p r CounterHalf = bytes2 (r .counter)
+abbrev pub partBytes : Plan → Record → Part → List ℕ
+partBytes p r SizeBytes = bytes2 (planSize p)
+partBytes p r VersionByte = p .version ∷ []
+partBytes p r FlagByte = flagsByte (r .flags) ∷ []
+partBytes p r TriesByte = r .tries ∷ []
+partBytes p r CodeWord = bytes4 (r .code)
+partBytes p r PowerHalf = bytes2 (r .settings .power)
+partBytes p r StepByte = r .settings .step ∷ []
+partBytes p r ModeByte = r .settings .mode ∷ []
+partBytes p r OnOffByte = r .settings .onOff ∷ []
+partBytes p r InputBytes = bytesAt 5 (r .settings .inputs) 0
+partBytes p r OutputByte = outputsByte (r .outputs) ∷ []
+partBytes p r IntervalByte = r .settings .interval ∷ []
+partBytes p r FilterWord = bytes4 (r .settings .filter)
+partBytes p r NamePart = length (r .settings .name) ∷ bytesAt nameRoom (r .settings .name) 0
+partBytes p r ModelPart = bytesAt modelRoom (r .model) 0
+partBytes p r PendingPart = length (r .pending) ∷ bytesAt (p .room) (r .pending) 0
+partBytes p r PairsPart = pairsBytes (p .channels) (r .pairs) 0
+partBytes p r CounterHalf = bytes2 (r .counter)
 
 unfoldable pub bytesIn : Plan → Record → List ℕ
-bytesIn p r = lay (chunk p r) (p .parts)
+bytesIn p r = lay (partBytes p r) (p .parts)
 
 unfoldable pub bytesOf : Record → List ℕ
 unfolding bytesIn
@@ -318,7 +318,7 @@ valueOf p c = record {
 
 unfoldable pub recordIn : Plan → List ℕ → Record
 unfolding valueOf
-recordIn p s = valueOf p (piece p s)
+recordIn p s = valueOf p (partIn p s)
 
 unfoldable pub recordOf : List ℕ → Record
 unfolding recordIn

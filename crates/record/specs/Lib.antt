@@ -6,4 +6,4 @@ pub mod Places
 pub mod Form
 pub mod Births
 pub mod Reading
-pub mod Place
+pub mod InPlace

@@ -4,20 +4,20 @@ use mathlib.Core.List.{List, [], _∷_}
 use Rattle.record.specs.Layout.{Part, SizeBytes, VersionByte, FlagByte, TriesByte, CodeWord, PowerHalf, StepByte, ModeByte, OnOffByte, InputBytes, OutputByte, IntervalByte, FilterWord, NamePart, ModelPart, PendingPart, PairsPart, CounterHalf, Plan, width, place}
 use Rattle.record.specs.Laid.{each}
 
-pub record Row : Type 0 where
+pub record PlaceRow : Type 0 where
   pub place : ℕ
   pub size : ℕ
   pub field : Part
 
-abbrev pub row : ℕ → ℕ → Part → Row
+abbrev pub row : ℕ → ℕ → Part → PlaceRow
 row place size field = record { place = place; size = size; field = field }
 
 -- the table of a layout
-abbrev pub rowsOf : Plan → List Row
+abbrev pub rowsOf : Plan → List PlaceRow
 rowsOf p = each (λ q. row (place p q) (width p q) q) (p .parts)
 
 -- the board: 123 bytes
-abbrev pub board1 : List Row
+abbrev pub board1 : List PlaceRow
 board1 =
     row 0 2 SizeBytes
     ∷ row 2 1 VersionByte
@@ -39,7 +39,7 @@ board1 =
     ∷ []
 
 -- the same with one waiting byte more: 124 bytes
-abbrev pub board2 : List Row
+abbrev pub board2 : List PlaceRow
 board2 =
     row 0 2 SizeBytes
     ∷ row 2 1 VersionByte
@@ -61,7 +61,7 @@ board2 =
     ∷ []
 
 -- and with a counter: 126 bytes
-abbrev pub board3 : List Row
+abbrev pub board3 : List PlaceRow
 board3 =
     row 0 2 SizeBytes
     ∷ row 2 1 VersionByte
@@ -84,7 +84,7 @@ board3 =
     ∷ []
 
 -- the board without radio: 112 bytes
-abbrev pub seatRows : List Row
+abbrev pub seatRows : List PlaceRow
 seatRows =
     row 0 2 SizeBytes
     ∷ row 2 1 VersionByte

@@ -34,11 +34,11 @@ pub const AT_INTERVAL: usize = 20;
 
 pub const AT_FILTER: usize = 21;
 
-pub const AT_NAME: usize = 25;
+pub const AT_NAME_LENGTH: usize = 25;
 
 pub const AT_MODEL: usize = 41;
 
-pub const AT_PENDING: usize = 56;
+pub const AT_PENDING_LENGTH: usize = 56;
 
 pub const AT_PAIRS: usize = 75;
 
@@ -46,9 +46,9 @@ pub const AT_PAIRS: usize = 75;
 pub const BEFORE_INPUTS: usize = AT_INPUTS - 2;
 
 // Behind the length of the name, and behind that of the pending bytes.
-pub const AT_NAME_BYTES: usize = AT_NAME + 1;
+pub const AT_NAME: usize = AT_NAME_LENGTH + 1;
 
-pub const AT_WAITING: usize = AT_PENDING + 1;
+pub const AT_PENDING: usize = AT_PENDING_LENGTH + 1;
 
 pub const NAME_ROOM: usize = 15;
 

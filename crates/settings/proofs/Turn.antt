@@ -15,10 +15,10 @@ use Rattle.wire.specs.Numbers.{Bytes, halfAt, wordAt}
 use Rattle.wire.proofs.NumberLaws.{half-bytes, word-bytes}
 use Rattle.record.specs.Record.{withOutput, withPower, withStep, withMode, withOnOff, withInputs, withInterval, withFilter, withSettings, withOutputs}
 use Rattle.record.specs.Layout.{PowerHalf, StepByte, ModeByte, OnOffByte, InputBytes, OutputByte, IntervalByte, FilterWord, place, bytesIn, atPower, atStep, atMode, atOnOff, atInputs, atOutputs, atInterval}
-use Rattle.record.specs.Place.{TurnsAt}
+use Rattle.record.specs.InPlace.{TurnsAt}
 use Rattle.record.proofs.Choices.{below-each}
 use Rattle.record.proofs.Stores.{set-powerIn, set-stepIn, set-modeIn, set-on-offIn, set-inputIn, set-outputIn, set-intervalIn, set-filterIn}
-use Rattle.record.proofs.PlaceLaws.{turns-at}
+use Rattle.record.proofs.InPlaceLaws.{turns-at}
 
 -- stores at places one behind the other
 two-run : (b : List ℕ) (at x y : ℕ) → set (set b at x) (at + 1) y ≡ sets b at (x ∷ y ∷ [])

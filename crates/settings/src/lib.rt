@@ -6,7 +6,7 @@ ghost use lib.Dec.{eqb};
 ghost use Rattle.wire.specs.Numbers.{halfAt, wordAt};
 ghost use Rattle.record.specs.Record.{withOutput, withPower, withStep, withMode, withOnOff, withInputs, withInterval, withFilter, withSettings, withOutputs};
 ghost use Rattle.record.specs.Layout.{PowerHalf, StepByte, ModeByte, OnOffByte, InputBytes, OutputByte, IntervalByte, FilterWord, atPower, atStep, atMode, atOnOff, atInputs, atOutputs, atInterval};
-ghost use Rattle.record.specs.Place.{SoundAt, TurnsAt};
+ghost use Rattle.record.specs.InPlace.{SoundAt, TurnsAt};
 use record::places::AT_INTERVAL;
 use record::places::AT_MODE;
 use record::places::AT_ON_OFF;

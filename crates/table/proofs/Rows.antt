@@ -6,20 +6,20 @@ use borrow.Author.Tests.{le-leb, lt-leb, ne-eqb}
 use Rattle.command.specs.declared.Command.{Command}
 use Rattle.command.specs.declared.Listed.the-variants.{Unlisted}
 use Rattle.command.specs.declared.Counted.the-variants.{Right, Wrong}
-use Rattle.command.specs.Tables.{Row, lookUp, spanOf, countedOf}
+use Rattle.command.specs.Tables.{CommandRow, lookUp, spanOf, countedOf}
 
 -- ---- numbers
 
 -- a number that is none of the rows', told as the code's match tells it
-abbrev pub Left : ℕ → Type 0 → List Row → Type 0
+abbrev pub Left : ℕ → Type 0 → List CommandRow → Type 0
 Left n P [] = P
 Left n P (x ∷ rows) = Left n (P × (n ≡ x .number → ⊥)) rows
 
-left-none : (n : ℕ) (P : Type 0) (rows : List Row) → Left n P rows → P × (lookUp n rows ≡ Unlisted)
+left-none : (n : ℕ) (P : Type 0) (rows : List CommandRow) → Left n P rows → P × (lookUp n rows ≡ Unlisted)
 left-none n P [] h = (h, refl)
 left-none n P (x ∷ rows) h = let w = left-none n (P × (n ≡ x .number → ⊥)) rows h in (w .0 .0, rw (ne-eqb n (x .number) (w .0 .1)) (w .1))
 
-pub left-out : (n : ℕ) (rows : List Row) → Left n (Unit {0}) rows → Unlisted ≡ lookUp n rows
+pub left-out : (n : ℕ) (rows : List CommandRow) → Left n (Unit {0}) rows → Unlisted ≡ lookUp n rows
 left-out n rows h = sym (left-none n (Unit {0}) rows h .1)
 
 -- ---- parameters

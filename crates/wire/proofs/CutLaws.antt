@@ -10,7 +10,7 @@ use lib.Seq.{take-append-le, length-take-le}
 use lib.Dec.{leb, eqb}
 use borrow.Author.Tests.{leb-false, leb-true, le-leb, eqb-true}
 use Rattle.wire.specs.Numbers.{Bytes}
-use Rattle.wire.specs.Frames.{Size, NoHead, NeedMore, Of, Heads, Look, Skip, Wait, Take, Tear, settle, weigh, look, Piece, Whole, Broken, sizes, All, Cut, stop, skipOne, carryOut, tearOne, onward, cutFrom, cut, isWait, waits}
+use Rattle.wire.specs.Frames.{Size, NoHead, NeedMore, Of, Heads, Look, Skip, Wait, Take, Tear, settle, weigh, look, Piece, Whole, Broken, sizes, All, Cut, stop, skipOne, takeOne, tearOne, onward, cutFrom, cut, isWait, waits}
 use Rattle.wire.proofs.NumberLaws.{bytes-take, bytes-drop}
 
 -- a size once said does not change when more bytes follow
@@ -115,7 +115,7 @@ module _ (h : Heads) where
   cut-skip [] n e = absurd (omega arith)
   cut-skip (x ∷ l) n e = cut-onward x l ∙ rw e refl
 
-  pub cut-take : (n : ℕ) (l : List ℕ) → look h l ≡ Take n → cut h l ≡ carryOut (take (4 + n) l) (cut h (drop (4 + n) l))
+  pub cut-take : (n : ℕ) (l : List ℕ) → look h l ≡ Take n → cut h l ≡ takeOne (take (4 + n) l) (cut h (drop (4 + n) l))
   cut-take n [] e = absurd (omega (arith, take-room [] n e .0))
   cut-take n (x ∷ l) e =
       let q : 4 + n ≡ suc (3 + n) = omega arith in

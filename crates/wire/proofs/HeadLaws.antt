@@ -4,7 +4,7 @@ use mathlib.Core.Path.{_≡_, refl}
 use mathlib.Core.Bool.{Bool, true, false}
 use native.Mathlib.Omega.{arith}
 use borrow.Author.Tests.{le-leb, lt-leb}
-use Rattle.wire.specs.Serial.{Head, Bad, Fixed, isHead, serialHead, lineHead}
+use Rattle.wire.specs.Serial.{Head, NotHead, Fixed, isHead, serialHead, lineHead}
 use Rattle.wire.specs.Heads.{announcedBy, announcedOf}
 use Rattle.wire.specs.declared.Line.{Line}
 use Rattle.wire.specs.declared.Line.the-variants.{Board}
@@ -25,11 +25,11 @@ pub board-line : (k : Line) (b : ℕ) → announcedBy (serialHead b) ≡ announc
 board-line Board b = refl
 
 pub params-head : (v : Head) (n : ℕ) → announcedBy v ≡ Params n → v ≡ Fixed n
-params-head Bad n e = let z : _≡_ {A = ℕ} 0 1 = cc in absurd (omega arith)
+params-head NotHead n e = let z : _≡_ {A = ℕ} 0 1 = cc in absurd (omega arith)
 params-head (Fixed m) n e = cc
 
-pub none-head : (v : Head) → announcedBy v ≡ NoFrame → v ≡ Bad
-none-head Bad e = refl
+pub none-head : (v : Head) → announcedBy v ≡ NoFrame → v ≡ NotHead
+none-head NotHead e = refl
 none-head (Fixed m) e = let z : _≡_ {A = ℕ} 0 1 = cc in absurd (omega arith)
 
 pub params-few : (k : Line) (b n : ℕ) → announcedOf k b ≡ Params n → n ≤ 15

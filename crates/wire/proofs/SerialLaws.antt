@@ -12,7 +12,7 @@ use borrow.Author.Tests.{ltb-true, ltb-false, lt-ltb, le-ltb, leb-true, leb-fals
 use Rattle.wire.specs.declared.Line.{Line}
 use Rattle.wire.specs.declared.Line.the-variants.{Board}
 use Rattle.wire.specs.Frames.{NeedMore, Of, Heads, Skip, Wait, Take, Tear, look, cut, isWait, waits, Passed}
-use Rattle.wire.specs.Serial.{Head, Bad, Fixed, front, fronted, isHead, closed, serial, lineHead, headsOf, Noise, sixLines, headOf}
+use Rattle.wire.specs.Serial.{Head, NotHead, Fixed, front, fronted, isHead, endsIn85, serial, lineHead, headsOf, Noise, sixLines, headOf}
 use Rattle.wire.proofs.CutLaws as cuts
 use Rattle.wire.proofs.CutLaws.{Steady, Under}
 use Rattle.wire.proofs.Stretches.{stretch-as}
@@ -24,7 +24,7 @@ longer k l more q = let p : k < length l = ltb-true _ _ q in lt-ltb k (length (l
 of-fixed : (a s : Bool) (v : Head) (n : ℕ) → front a s v ≡ Of n → v ≡ Fixed n
 of-fixed false s v n e = let z : _≡_ {A = ℕ} 0 1 = cc in absurd (omega arith)
 of-fixed true false v n e = let z : _≡_ {A = ℕ} 0 1 = cc in absurd (omega arith)
-of-fixed true true Bad n e = let z : _≡_ {A = ℕ} 0 1 = cc in absurd (omega arith)
+of-fixed true true NotHead n e = let z : _≡_ {A = ℕ} 0 1 = cc in absurd (omega arith)
 of-fixed true true (Fixed m) n e = cc
 
 module _ (head : ℕ → Head) (sound : List ℕ → Bool) where
@@ -35,7 +35,7 @@ module _ (head : ℕ → Head) (sound : List ℕ → Bool) where
       → (front a b v ≡ NeedMore → ⊥) → fronted head sound .size (l ++ more) ≡ front a b v
   stays-by l more false b v p ha hb hv w = rw (List·getD-append l more 0 0 p, ha) refl
   stays-by l more true false v p ha hb hv w = absurd (w refl)
-  stays-by l more true true Bad p ha hb hv w =
+  stays-by l more true true NotHead p ha hb hv w =
       rw (List·getD-append l more 0 0 p, List·getD-append l more 0 1 (ltb-true _ _ hb), ha, longer 1 l more hb, hv) refl
   stays-by l more true true (Fixed n) p ha hb hv w =
       rw (List·getD-append l more 0 0 p, List·getD-append l more 0 1 (ltb-true _ _ hb), ha, longer 1 l more hb, hv) refl
@@ -47,7 +47,7 @@ module _ (head : ℕ → Head) (sound : List ℕ → Bool) where
     early-by : (l : List ℕ) (a s : Bool) (v : Head) → ltb 1 (length l) ≡ s → front a s v ≡ NeedMore → length l < bound
     early-by l false s v q e = let z : _≡_ {A = ℕ} 0 1 = cc in absurd (omega arith)
     early-by l true false v q e = omega (arith, ltb-false 1 (length l) q)
-    early-by l true true Bad q e = let z : _≡_ {A = ℕ} 0 1 = cc in absurd (omega arith)
+    early-by l true true NotHead q e = let z : _≡_ {A = ℕ} 0 1 = cc in absurd (omega arith)
     early-by l true true (Fixed m) q e = let z : _≡_ {A = ℕ} 0 1 = cc in absurd (omega arith)
 
     pub fronted-under : Under (fronted head sound) bound
@@ -71,7 +71,7 @@ module _ (head : ℕ → Head) (sound : List ℕ → Bool) where
       front-alone h = rw (eq-eqb (getD l 0 0) 0xAA aa, le-ltb 1 (length l) h) refl
 
       module _ (two : 1 < length l) where
-        pub front-headless : head (getD l 1 0) ≡ Bad → look (fronted head sound) l ≡ Skip
+        pub front-headless : head (getD l 1 0) ≡ NotHead → look (fronted head sound) l ≡ Skip
         unfolding look
         front-headless h = rw (eq-eqb (getD l 0 0) 0xAA aa, lt-ltb 1 (length l) two, h) refl
 
@@ -114,11 +114,11 @@ module _ (h : Heads) (ok : Huntable h) where
 
 -- ---- the lines
 
-pub heads-of : (k : Line) → headsOf k ≡ fronted (lineHead k) closed
+pub heads-of : (k : Line) → headsOf k ≡ fronted (lineHead k) endsIn85
 unfolding serial
 heads-of Board = refl
 
-low-half : (t : Bool) (b n : ℕ) → cond t (Fixed (b % 16)) Bad ≡ Fixed n → (4 + n ≤ 19) × (t ≡ true)
+low-half : (t : Bool) (b n : ℕ) → cond t (Fixed (b % 16)) NotHead ≡ Fixed n → (4 + n ≤ 19) × (t ≡ true)
 low-half true b n e = let q : b % 16 ≡ n = cc in (omega arith, refl)
 low-half false b n e = let z : _≡_ {A = ℕ} 0 1 = cc in absurd (omega arith)
 
@@ -132,9 +132,9 @@ line-headed Board b n e = low-half (isHead b) b n e .1
 
 pub huntable : (k : Line) → Huntable (headsOf k)
 huntable k = rw (heads-of k) (record {
-  steady = fronted-steady (lineHead k) closed;
-  under = fronted-under (lineHead k) closed 19 (line-short k) (omega arith);
-  headed = λ l n e. line-headed k (getD l 1 0) n (front-says (lineHead k) closed l n e);
+  steady = fronted-steady (lineHead k) endsIn85;
+  under = fronted-under (lineHead k) endsIn85 19 (line-short k) (omega arith);
+  headed = λ l n e. line-headed k (getD l 1 0) n (front-says (lineHead k) endsIn85 l n e);
 })
 
 -- ---- 9n and An
@@ -153,7 +153,7 @@ pending-short l t = waits-few serial serial-huntable l t
 
 -- ---- the six lines
 
-pub closed-is : (n : ℕ) (l : List ℕ) → 4 + n ≤ length l → closed (take (4 + n) l) ≡ eqb (getD l (3 + n) 0) 0x85
+pub closed-is : (n : ℕ) (l : List ℕ) → 4 + n ≤ length l → endsIn85 (take (4 + n) l) ≡ eqb (getD l (3 + n) 0) 0x85
 closed-is n l p =
     let e : 4 + n - 1 ≡ 3 + n = omega arith in
     rw (length-take-le (4 + n) l p, e, getD-take (4 + n) l (3 + n) 0 (omega arith)) refl

@@ -73,8 +73,8 @@ abbrev pub skipOne : Cut → Cut
 skipOne c = skips 1 c
 
 -- a whole frame before a cut
-abbrev pub carryOut : List ℕ → Cut → Cut
-carryOut f c = record { pieces = Whole f ∷ c .pieces; skipped = c .skipped; waiting = c .waiting }
+abbrev pub takeOne : List ℕ → Cut → Cut
+takeOne f c = record { pieces = Whole f ∷ c .pieces; skipped = c .skipped; waiting = c .waiting }
 
 -- a broken head before a cut: its AA alone is skipped
 abbrev pub tearOne : ℕ → Cut → Cut
@@ -84,7 +84,7 @@ tearOne h c = record { pieces = Broken h ∷ c .pieces; skipped = 1 + c .skipped
 abbrev pub onward : Look → List ℕ → (ℕ → Cut) → Cut
 onward Skip l go = skipOne (go 0)
 onward Wait l go = stop l
-onward (Take n) l go = carryOut (take (4 + n) l) (go (3 + n))
+onward (Take n) l go = takeOne (take (4 + n) l) (go (3 + n))
 onward Tear l go = tearOne (getD l 1 0) (go 0)
 
 -- the hunt from the left, when the next k bytes belong to a frame that was carried out

@@ -1,12 +1,12 @@
 -- Inner contract: a head as the code's enum.
 use Prim.Native.Nat.{ℕ}
-use Rattle.wire.specs.Serial.{Head, Bad, Fixed, lineHead}
+use Rattle.wire.specs.Serial.{Head, NotHead, Fixed, lineHead}
 use Rattle.wire.specs.declared.Line.{Line}
 use Rattle.wire.specs.declared.Announced.{Announced}
 use Rattle.wire.specs.declared.Announced.the-variants.{Params, NoFrame}
 
 abbrev pub announcedBy : Head → Announced
-announcedBy Bad = NoFrame
+announcedBy NotHead = NoFrame
 announcedBy (Fixed n) = Params n
 
 abbrev pub announcedOf : Line → ℕ → Announced

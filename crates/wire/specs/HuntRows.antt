@@ -5,12 +5,12 @@ use mathlib.Core.List.{List, [], _∷_}
 use Rattle.wire.specs.Frames.{Whole, Broken, Cut, cut}
 use Rattle.wire.specs.Serial.{serial}
 
-pub record Row : Type 0 where
+pub record CutRow : Type 0 where
   pub stream : List ℕ
   pub becomes : Cut
 
 -- a frame inside a broken one; a second AA that is a head; the SetName line of source 003
-abbrev pub rows : List Row
+abbrev pub rows : List CutRow
 rows =
     record {
       stream = 0xAA ∷ 0xA4 ∷ 0xAA ∷ 0x90 ∷ 0x23 ∷ 0x85 ∷ 0x00 ∷ 0x00 ∷ [];
@@ -27,6 +27,6 @@ rows =
     ∷ []
 
 -- each stream is cut as its row says
-abbrev pub Holds : List Row → Type 0
-Holds [] = Unit {0}
-Holds (r ∷ rs) = (cut serial (r .stream) ≡ r .becomes) × Holds rs
+abbrev pub CutsHold : List CutRow → Type 0
+CutsHold [] = Unit {0}
+CutsHold (r ∷ rs) = (cut serial (r .stream) ≡ r .becomes) × CutsHold rs

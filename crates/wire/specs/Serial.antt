@@ -11,14 +11,14 @@ use Rattle.wire.specs.Frames.{Size, NoHead, NeedMore, Of, Heads, Look, S
 
 -- what a byte behind the AA announces: no frame, or one of 4 + n bytes
 pub data Head : Type 0 where
-  Bad : Head
+  NotHead : Head
   Fixed : ℕ → Head
 
 -- is the first byte AA, is there a second, what does it announce
 abbrev pub front : Bool → Bool → Head → Size
 front false second h = NoHead
 front true false h = NeedMore
-front true true Bad = NoHead
+front true true NotHead = NoHead
 front true true (Fixed n) = Of n
 
 -- the set of heads that a byte behind the AA makes known, with the test of a whole candidate
@@ -31,15 +31,15 @@ isHead b = leb 0x90 b && leb b 0xAF
 
 -- "Its size is 4 + n, at most 19": n is the low half of the head
 abbrev pub serialHead : ℕ → Head
-serialHead b = cond (isHead b) (Fixed (b % 16)) Bad
+serialHead b = cond (isHead b) (Fixed (b % 16)) NotHead
 
 -- "the last is 85"
-abbrev pub closed : List ℕ → Bool
-closed f = eqb (getD f (length f - 1) 0) 0x85
+abbrev pub endsIn85 : List ℕ → Bool
+endsIn85 f = eqb (getD f (length f - 1) 0) 0x85
 
 -- the board's set of heads
 unfoldable pub serial : Heads
-serial = fronted serialHead closed
+serial = fronted serialHead endsIn85
 
 -- the heads of each line: what the byte behind the AA announces there, and the set that it makes
 abbrev pub lineHead : Line → ℕ → Head

@@ -6,7 +6,7 @@ use crate::Announced;
 use crate::Line;
 
 // The board's heads: 9n and An.
-fn board_announces(b: u8) -> Announced
+fn serial_head(b: u8) -> Announced
     ensures { λ r. ⌜ r ≡ announcedBy (serialHead b) ⌝ }
 {
     if b < 0x90 {
@@ -22,6 +22,6 @@ pub fn announced_by(line: Line, b: u8) -> Announced
     ensures { λ r. ⌜ r ≡ announcedOf line b ⌝ }
 {
     match line {
-        Line::Board => board_announces(b),
+        Line::Board => serial_head(b),
     }
 }

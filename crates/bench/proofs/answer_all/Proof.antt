@@ -1,3 +1,4 @@
+-- `answer_all`: every cut of standard input is answered, and the program ends.
 use native.Mathlib.Omega.{arith}
 use mathlib.Core.Path.{_≡_, refl}
 use lib.ListN.{length}

@@ -1,3 +1,4 @@
+-- `answer_some`: one cut is handed to the bytes call, and its replies are written out.
 use native.Mathlib.Omega.{arith}
 use lib.Seq.{length-take-le}
 use mathlib.Core.Path.{sym}

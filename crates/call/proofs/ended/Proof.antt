@@ -1,3 +1,4 @@
+-- `ended`: an ending becomes its number, with zero counts.
 use mathlib.Core.Path.{refl}
 use borrow.Author.Needs.{needs}
 use Rattle.call.proofs.ended.Statement.{statement}

@@ -1,3 +1,4 @@
+-- `act`: the verdict is the table's, and the record is what the effect or the refusal leaves.
 use native.Mathlib.Omega.{arith}
 use Rattle.carry.proofs.Acted.{may-do, acts-do, may-count, acts-refuse}
 use borrow.Author.Needs.{needs}
@@ -10,8 +11,8 @@ judge-requires c κs = c .before .before .before .pre
 enum-known-verdict : tie.Need-enum-known-verdict
 enum-known-verdict c = search needs
 
-carry-out-requires : tie.Need-carry-out-requires
-carry-out-requires c κs =
+take-effect-requires : tie.Need-take-effect-requires
+take-effect-requires c κs =
     let z = c .before .before .before .before .before .before .before .before in
     (z .pre, may-do (z .args .rec .now) (z .args .head) (z .args .number) (z .args .p .now) (z .pre) _ (c .before .before .before .before .judge .ensures) _ (c .before .before .verdict .given .1))
 
@@ -29,7 +30,7 @@ same-length c = search needs
 returns : tie.Need-returns
 returns c =
     let z = c .before .before .before .before .before .before .before .before .before .before .before in
-    acts-do (z .args .rec .now) (z .args .head) (z .args .number) (z .args .p .now) (z .pre) _ (c .before .before .before .before .before .before .before .judge .ensures) _ (c .before .before .before .before .before .verdict .given .1) (λ i. omega (arith, c .before .before .before .before .before .before .before .before .before .shared-slice-known .given i)) _ (c .before .before .carry-out .ensures)
+    acts-do (z .args .rec .now) (z .args .head) (z .args .number) (z .args .p .now) (z .pre) _ (c .before .before .before .before .before .before .before .judge .ensures) _ (c .before .before .before .before .before .verdict .given .1) (λ i. omega (arith, c .before .before .before .before .before .before .before .before .before .shared-slice-known .given i)) _ (c .before .before .take-effect .ensures)
 
 same-length-2 : tie.Need-same-length-2
 same-length-2 c = search needs
@@ -45,7 +46,7 @@ act-spec =
     (tie.spec
     judge-requires
     enum-known-verdict
-    carry-out-requires
+    take-effect-requires
     enum-known-verdict-2
     refuse-on-requires
     same-length

@@ -1,5 +1,6 @@
+-- `carry`: a whole frame leaves the record and the reply of its step.
 use native.Mathlib.Omega.{arith}
-use Rattle.record.proofs.PlaceLaws.{holds-sound}
+use Rattle.record.proofs.InPlaceLaws.{holds-sound}
 use Rattle.carry.proofs.Acted.{may-answer, carries-do, carries-refuse}
 use borrow.Author.Needs.{needs}
 use Rattle.carry.proofs.carry.Statement.{statement}

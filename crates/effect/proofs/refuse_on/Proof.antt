@@ -1,9 +1,10 @@
+-- `refuse_on`: a refusal leaves the record as it was, but for the try of a wrong code.
 use mathlib.Core.Path.{_≡_, refl}
 use mathlib.Core.List.{List}
 use Prim.Native.Nat.{ℕ}
-use Rattle.record.specs.Place.{Turns}
+use Rattle.record.specs.InPlace.{Turns}
 use Rattle.record.specs.Layout.{TriesByte, atTries}
-use Rattle.record.proofs.PlaceLaws.{sound-at, here}
+use Rattle.record.proofs.InPlaceLaws.{sound-at, here}
 use Rattle.command.specs.declared.Refusal.{Refusal}
 use Rattle.command.specs.declared.Refusal.the-variants.{Unknown, Unbuilt, Parameters, NoAccess, BadCode, TooBig, TooSmall}
 use Rattle.command.specs.Step.{leftBy}

@@ -1,3 +1,4 @@
+-- `find`: the search stops at the first frame, broken head or waiting candidate, and has skipped all before it.
 use native.Mathlib.Omega.{arith}
 use Rattle.wire.specs.Frames.{Passed}
 use Rattle.wire.specs.Serial.{headsOf}
@@ -5,7 +6,7 @@ use Rattle.wire.specs.declared.Line.{Line}
 use Rattle.wire.proofs.Stretches.{stretch-none, stretch-one}
 use Rattle.wire.specs.Heads.{announcedOf}
 use Rattle.wire.specs.declared.Announced.the-variants.{Params}
-use Rattle.finder.specs.declared.Seen.the-variants.{Nothing}
+use Rattle.finder.specs.declared.Seen.the-variants.{NoMore}
 use Rattle.wire.proofs.HeadLaws.{params-head, none-head, params-few}
 use Rattle.finder.proofs.FinderLaws.{passed-noise, reached, look-alone, look-headless, Candidate, scan-waits, scan-torn, scan-frame, scan-last, lesser-least, finds-end, finds-waiting}
 use borrow.Author.Needs.{needs}
@@ -23,7 +24,7 @@ abbrev μ-loop : tie.MeasureT-loop
 μ-loop s from until at seen₀ n last stop place₀ seen place = length s - place
 
 abbrev Inv-hunt : tie.InvT-hunt
-Inv-hunt line s from until at₀ seen₀ at seen = Passed (headsOf line) s from at × (at ≤ until) × (seen ≡ Nothing)
+Inv-hunt line s from until at₀ seen₀ at seen = Passed (headsOf line) s from at × (at ≤ until) × (seen ≡ NoMore)
 
 abbrev μ-hunt : tie.MeasureT-hunt
 μ-hunt line s from until at₀ seen₀ at seen = until - at
@@ -146,7 +147,7 @@ returns-5 c =
     let l = c .before .before .before .before .loop in
     let k = candidate f more _ (l .place) (omega (arith, c .before .before .before .before .before .before .before .before .before .before .before .if2 .left)) (sym (c .before .before .before .before .before .before .before .before .before .announced-by .ensures) ∙ c .before .before .before .before .before .before .before .n .given .1) (l .inv .0) in
     let end = scan-last _ _ _ (l .place) (c .before .before .before .before .before .lesser .ensures .2) (c .before .before .before .if3 .left) (c .before .before .if4 .left) in
-    record { passed = passed-here f; shows = (before-end f more, scan-torn (line f) _ _ _ _ k (c .before .before .if4 .left) end (c .if5 .taken)) }
+    record { passed = passed-here f; stands = (before-end f more, scan-torn (line f) _ _ _ _ k (c .before .before .if4 .left) end (c .if5 .taken)) }
 
 returns-6 : tie.Need-returns-6 Inv-loop μ-loop Inv-hunt μ-hunt
 returns-6 c =
@@ -155,7 +156,7 @@ returns-6 c =
     let l = c .before .before .before .before .loop in
     let k = candidate f more _ (l .place) (omega (arith, c .before .before .before .before .before .before .before .before .before .before .before .if2 .left)) (sym (c .before .before .before .before .before .before .before .before .before .announced-by .ensures) ∙ c .before .before .before .before .before .before .before .n .given .1) (l .inv .0) in
     let end = scan-last _ _ _ (l .place) (c .before .before .before .before .before .lesser .ensures .2) (c .before .before .before .if3 .left) (c .before .before .if4 .left) in
-    record { passed = passed-here f; shows = (before-end f more, scan-frame (line f) _ _ _ _ k (c .before .before .if4 .left) end (c .if5 .left)) }
+    record { passed = passed-here f; stands = (before-end f more, scan-frame (line f) _ _ _ _ k (c .before .before .if4 .left) end (c .if5 .left)) }
 
 pub find-spec : {M : Type 1} → statement M
 find-spec =

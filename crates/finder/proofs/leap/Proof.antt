@@ -1,3 +1,4 @@
+-- `leap`: none of the bytes that are leapt over is AA.
 use native.Mathlib.Omega.{arith}
 use Rattle.wire.specs.Serial.{Noise}
 use Rattle.wire.proofs.Stretches.{stretch-none}

@@ -1,3 +1,4 @@
+-- `lesser`: the lesser of two numbers.
 use native.Mathlib.Omega.{arith}
 use mathlib.Core.Logic.{inl, inr}
 use mathlib.Core.Path.{refl}

@@ -1,3 +1,4 @@
+-- `next_aa`: the scan stops at the next AA or at the end.
 use native.Mathlib.Omega.{arith}
 use Rattle.wire.specs.Serial.{Noise}
 use Rattle.wire.proofs.Stretches.{stretch-none, stretch-one}

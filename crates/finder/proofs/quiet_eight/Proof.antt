@@ -1,6 +1,7 @@
+-- `quiet_eight`: the word test is true only where none of eight bytes is AA.
 use native.Mathlib.Nat.{add-zero}
 use mathlib.Core.Path.{refl}
-use Rattle.finder.specs.Finder.{quiet}
+use Rattle.finder.specs.Finder.{noAA}
 use borrow.Author.Needs.{needs}
 use Rattle.finder.proofs.quiet_eight.Statement.{statement}
 use Rattle.finder.proofs.quiet_eight.Tie as tie
@@ -51,7 +52,7 @@ shared-slice-read-result-8 : tie.Need-shared-slice-read-result-8
 shared-slice-read-result-8 c = search needs
 
 returns : tie.Need-returns
-unfolding quiet
+unfolding noAA
 returns c = rw add-zero refl
 
 pub quiet-eight-spec : {M : Type 1} → statement M

@@ -1,7 +1,8 @@
+-- `close_mode`: the store clears the flag of configuration mode and keeps the rest.
 use Rattle.flags.proofs.Turn.{turn-close}
 use native.Mathlib.Omega.{arith}
 use Rattle.record.specs.Layout.{FlagByte, atFlags}
-use Rattle.record.proofs.PlaceLaws.{reaches}
+use Rattle.record.proofs.InPlaceLaws.{reaches}
 use borrow.Author.Needs.{needs}
 use Rattle.flags.proofs.close_mode.Statement.{statement}
 use Rattle.flags.proofs.close_mode.Tie as tie

@@ -1,7 +1,8 @@
+-- `count_try`: the store adds one to the tries.
 use Rattle.flags.proofs.Turn.{turn-tries}
 use native.Mathlib.Omega.{arith}
 use Rattle.record.specs.Layout.{TriesByte, atTries}
-use Rattle.record.proofs.PlaceLaws.{reaches}
+use Rattle.record.proofs.InPlaceLaws.{reaches}
 use borrow.Author.Needs.{needs}
 use Rattle.flags.proofs.count_try.Statement.{statement}
 use Rattle.flags.proofs.count_try.Tie as tie

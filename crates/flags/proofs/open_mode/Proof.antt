@@ -1,7 +1,8 @@
+-- `open_mode`: the store sets the flag of configuration mode and keeps the rest.
 use Rattle.flags.proofs.Turn.{turn-open}
 use native.Mathlib.Omega.{arith}
 use Rattle.record.specs.Layout.{FlagByte, atFlags}
-use Rattle.record.proofs.PlaceLaws.{reaches}
+use Rattle.record.proofs.InPlaceLaws.{reaches}
 use borrow.Author.Needs.{needs}
 use Rattle.flags.proofs.open_mode.Statement.{statement}
 use Rattle.flags.proofs.open_mode.Tie as tie

@@ -1,7 +1,8 @@
+-- `start_sending`: the store sets the flag of sending and keeps the rest.
 use Rattle.flags.proofs.Turn.{turn-start}
 use native.Mathlib.Omega.{arith}
 use Rattle.record.specs.Layout.{FlagByte, atFlags}
-use Rattle.record.proofs.PlaceLaws.{reaches}
+use Rattle.record.proofs.InPlaceLaws.{reaches}
 use borrow.Author.Needs.{needs}
 use Rattle.flags.proofs.start_sending.Statement.{statement}
 use Rattle.flags.proofs.start_sending.Tie as tie

@@ -1,7 +1,8 @@
+-- `stop_sending`: the store clears the flag of sending and keeps the rest.
 use Rattle.flags.proofs.Turn.{turn-stop}
 use native.Mathlib.Omega.{arith}
 use Rattle.record.specs.Layout.{FlagByte, atFlags}
-use Rattle.record.proofs.PlaceLaws.{reaches}
+use Rattle.record.proofs.InPlaceLaws.{reaches}
 use borrow.Author.Needs.{needs}
 use Rattle.flags.proofs.stop_sending.Statement.{statement}
 use Rattle.flags.proofs.stop_sending.Tie as tie

@@ -1,7 +1,8 @@
+-- `unlock`: the store sets the flag of unlocking and keeps the rest.
 use Rattle.flags.proofs.Turn.{turn-unlock}
 use native.Mathlib.Omega.{arith}
 use Rattle.record.specs.Layout.{FlagByte, atFlags}
-use Rattle.record.proofs.PlaceLaws.{reaches}
+use Rattle.record.proofs.InPlaceLaws.{reaches}
 use borrow.Author.Needs.{needs}
 use Rattle.flags.proofs.unlock.Statement.{statement}
 use Rattle.flags.proofs.unlock.Tie as tie

@@ -1,3 +1,4 @@
+-- `form_of`: all groups of fields are fine exactly when the record is well formed.
 use Rattle.form.proofs.Fine.{short, bad, good}
 use mathlib.Core.Path.{sym, _∙_}
 use mathlib.Core.Bool.{and-true}

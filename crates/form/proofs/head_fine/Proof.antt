@@ -1,3 +1,4 @@
+-- `head_fine`: the tests of length, version, flags and tries are those of their fields.
 use Rattle.form.proofs.Groups.{head-is}
 use borrow.Author.Needs.{needs}
 use Rattle.form.proofs.head_fine.Statement.{statement}

@@ -1,3 +1,4 @@
+-- `inputs_fine`: the five tests of the input types are those of their fields.
 use Rattle.form.proofs.Groups.{inputs-is}
 use borrow.Author.Needs.{needs}
 use Rattle.form.proofs.inputs_fine.Statement.{statement}

@@ -1,3 +1,4 @@
+-- `model_fine`: zeros from the first zero on are what a model asks.
 use Rattle.form.proofs.Fine.{model-is}
 use mathlib.Core.Path.{_∙_}
 use borrow.Author.Needs.{needs}

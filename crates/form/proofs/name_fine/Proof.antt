@@ -1,4 +1,5 @@
-use Rattle.record.specs.Layout.{atName}
+-- `name_fine`: the tests of the name's length, bytes and zeros are those of its fields.
+use Rattle.record.specs.Layout.{atNameLength}
 use Rattle.form.proofs.Fine.{name-long, name-zeros, name-bad}
 use native.Mathlib.Omega.{arith}
 use mathlib.Core.Path.{_∙_}
@@ -10,7 +11,7 @@ shared-slice-read-n : tie.Need-shared-slice-read-n
 shared-slice-read-n c = search needs
 
 cast-n : tie.Need-cast-n
-cast-n c = omega (arith, c .shared-slice-known2 .given atName)
+cast-n c = omega (arith, c .shared-slice-known2 .given atNameLength)
 
 returns : tie.Need-returns
 returns c = let z = c .before .before .before in name-long (z .args .s .now) (z .pre) (c .if1 .taken)

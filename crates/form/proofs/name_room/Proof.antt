@@ -1,3 +1,4 @@
+-- `name_room`: fifteen tests in a row are the range of the whole room.
 use Rattle.form.proofs.Groups.{name-room-is}
 use borrow.Author.Needs.{needs}
 use Rattle.form.proofs.name_room.Statement.{statement}

@@ -1,3 +1,4 @@
+-- `pair_none`: both patterns zero is a pair without a reading.
 use mathlib.Core.Path.{refl}
 use borrow.Author.Needs.{needs}
 use Rattle.form.proofs.pair_none.Statement.{statement}

@@ -1,3 +1,4 @@
+-- `pair_seen`: finite, and the smallest not above the greatest, is a pair with a reading.
 use mathlib.Core.Path.{sym, _∙_}
 use mathlib.Core.Bool.{_&&_}
 use native.Mathlib.Omega.{arith}

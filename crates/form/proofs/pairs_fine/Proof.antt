@@ -1,3 +1,4 @@
+-- `pairs_fine`: the reading flag chooses the test of the pairs.
 use Rattle.form.proofs.Groups.{pairs-by}
 use mathlib.Core.Bool.{true, false}
 use mathlib.Core.Path.{_∙_}

@@ -1,3 +1,4 @@
+-- `pairs_none`: six tests in a row are those of pairs without a reading.
 use Rattle.form.proofs.Groups.{pairs-is}
 use mathlib.Core.Bool.{false}
 use borrow.Author.Needs.{needs}

@@ -1,3 +1,4 @@
+-- `pairs_seen`: six tests in a row are those of pairs with a reading.
 use Rattle.form.proofs.Groups.{pairs-is}
 use mathlib.Core.Bool.{true}
 use borrow.Author.Needs.{needs}

@@ -1,3 +1,4 @@
+-- `pending_fine`: the tests of the pending length, bytes and zeros are those of their fields.
 use Rattle.form.proofs.Fine.{pending-long, pending-zeros, pending-bad}
 use mathlib.Core.Path.{sym, _∙_}
 use native.Mathlib.Omega.{arith}

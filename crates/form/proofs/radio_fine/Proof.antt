@@ -1,3 +1,4 @@
+-- `radio_fine`: the tests of power, LE step, mode and on/off are those of their fields.
 use Rattle.form.proofs.Groups.{radio-is}
 use Prim.Native.Nat.{ℕ}
 use mathlib.Core.Path.{ap, _∙_}

@@ -1,3 +1,4 @@
+-- `switches_fine`: the tests of outputs, interval and filter word are those of their fields.
 use Rattle.form.proofs.Groups.{switches-is}
 use borrow.Author.Needs.{needs}
 use Rattle.form.proofs.switches_fine.Statement.{statement}

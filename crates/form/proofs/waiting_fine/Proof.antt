@@ -1,3 +1,4 @@
+-- `waiting_fine`: the tests of the first two bytes and of the length are what the hunt leaves waiting.
 use native.Mathlib.Omega.{arith}
 use mathlib.Core.Path.{sym, _∙_}
 use Prim.Native.Nat.{_+_}

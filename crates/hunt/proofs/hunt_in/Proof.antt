@@ -1,4 +1,5 @@
-use Rattle.record.proofs.PlaceLaws.{holds-long}
+-- `hunt_in`: each turn of the loop goes on with what the hunt has done so far, up to its end.
+use Rattle.record.proofs.InPlaceLaws.{holds-long}
 use native.Mathlib.Omega.{arith}
 use Rattle.record.specs.Layout.{recordOf}
 use Rattle.hunt.specs.Progress.{Going}

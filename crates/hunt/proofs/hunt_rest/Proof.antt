@@ -1,9 +1,10 @@
+-- `hunt_rest`: what waits behind the hunt becomes the pending bytes.
 use mathlib.Core.Path.{refl}
-use Rattle.record.proofs.PlaceLaws.{here-pending}
+use Rattle.record.proofs.InPlaceLaws.{here-pending}
 use Rattle.hunt.proofs.JoinLaws.{roomed, rests-kept, rests-short, rests}
 use Rattle.wire.specs.Serial.{headsOf}
 use Rattle.wire.proofs.SerialLaws.{huntable}
-use Rattle.record.specs.Layout.{pendingRoom, atPending}
+use Rattle.record.specs.Layout.{pendingRoom, atPendingLength}
 use borrow.Author.Needs.{needs}
 use Rattle.hunt.proofs.hunt_rest.Statement.{statement}
 use Rattle.hunt.proofs.hunt_rest.Tie as tie
@@ -36,7 +37,7 @@ returns : tie.Need-returns
 returns c =
     let f = c .before .before .before .before .before .before .before .before .before in
     let z = f .before .before .before .before .before .before .args in
-    rests (headsOf (z .line)) (z .rec .now) (z .s .now) (z .out .now) (z .start) (f .hunt-in .result) (f .hunt-in .last .1 .0) (f .hunt-in .last .1 .1 .1 .1 .0) (f .hunt-in .ensures) _ (here-pending atPending pendingRoom _ _ _ refl refl (c .before .before .set-pending .ensures))
+    rests (headsOf (z .line)) (z .rec .now) (z .s .now) (z .out .now) (z .start) (f .hunt-in .result) (f .hunt-in .last .1 .0) (f .hunt-in .last .1 .1 .1 .1 .0) (f .hunt-in .ensures) _ (here-pending atPendingLength pendingRoom _ _ _ refl refl (c .before .before .set-pending .ensures))
 
 pub hunt-rest-spec : {M : Type 1} → statement M
 hunt-rest-spec =

@@ -1,3 +1,4 @@
+-- `join`: the buffer holds the pending bytes and what they can reach of the input.
 use native.Mathlib.Omega.{arith}
 use Rattle.hunt.proofs.JoinLaws.{reach-long, held-long, joined-is}
 use mathlib.Core.Path.{sym}

@@ -1,4 +1,5 @@
-use Rattle.record.proofs.PlaceLaws.{here-pending}
+-- `serve`: the hunt through the join and the hunt through the input are the hunt through both.
+use Rattle.record.proofs.InPlaceLaws.{here-pending}
 use native.Mathlib.Omega.{arith}
 use Prim.Native.Nat.{ℕ, _+_, _-_, _≤_, _<_}
 use mathlib.Core.Path.{_≡_, refl, sym, subst}
@@ -6,9 +7,9 @@ use mathlib.Core.List.{List}
 use lib.ListN.{length, getD, take, drop}
 use Rattle.wire.specs.Sizes.{frameMost}
 use Rattle.hunt.specs.Hunt.{roomFor}
-use Rattle.record.specs.Layout.{pendingRoom, atPending, recordOf}
-use Rattle.record.specs.Place.{Sound}
-use Rattle.record.proofs.PlaceLaws.{holds-long}
+use Rattle.record.specs.Layout.{pendingRoom, atPendingLength, recordOf}
+use Rattle.record.specs.InPlace.{Sound}
+use Rattle.record.proofs.InPlaceLaws.{holds-long}
 use Rattle.wire.specs.Serial.{serial}
 use Rattle.wire.proofs.SerialLaws.{serial-huntable}
 use Rattle.hunt.specs.Progress.{Joins}
@@ -31,7 +32,7 @@ module _ (j : tie.After-join) where
   out₀ = j .before .before .before .before .before .before .before .args .out .now
 
   abbrev held : ℕ
-  held = getD rec₀ atPending 0
+  held = getD rec₀ atPendingLength 0
 
   abbrev head : List ℕ
   head = j .join .last .1 .1 .1 .1 .0
@@ -133,7 +134,7 @@ returns : tie.Need-returns
 returns c =
     let f = c .before .before .before .before .before .before .before .before .before .before .before in
     let j = f .before .before .before .before .before in
-    serves-board (recordOf (rec₀ j)) (input j) (out₀ j) _ _ _ (serves-first (waiting j) (input j) (head j) (held j) (total j) (held-is (rec₀ j) (sound j)) (joins j) serial (recordOf (rec₀ j)) (out₀ j) (f .hunt-in .result) (rec₁ f) (out₁ f) (f .hunt-in .ensures) serial-huntable (c .before .before .before .before .before .before .if1 .taken) _ (here-pending atPending pendingRoom _ _ _ refl refl (c .before .before .set-pending .ensures)))
+    serves-board (recordOf (rec₀ j)) (input j) (out₀ j) _ _ _ (serves-first (waiting j) (input j) (head j) (held j) (total j) (held-is (rec₀ j) (sound j)) (joins j) serial (recordOf (rec₀ j)) (out₀ j) (f .hunt-in .result) (rec₁ f) (out₁ f) (f .hunt-in .ensures) serial-huntable (c .before .before .before .before .before .before .if1 .taken) _ (here-pending atPendingLength pendingRoom _ _ _ refl refl (c .before .before .set-pending .ensures)))
 
 sub-hunt-rest : tie.Need-sub-hunt-rest
 sub-hunt-rest c = starts (c .before .before .before .before .before .before) (omega (arith, c .before .if1 .left))

@@ -1,3 +1,4 @@
+-- `check_access`: each need is answered as the definition of access says.
 use mathlib.Core.Path.{refl, sym, _∙_}
 use Rattle.command.specs.Judge.{accessOf}
 use Rattle.judge.proofs.Checks.{flag-sound, flag-here}

@@ -1,8 +1,9 @@
+-- `code_access`: the code is compared only with configuration mode closed and a try left.
 use native.Mathlib.Omega.{arith}
 use mathlib.Core.Path.{_≡_, sym, _∙_}
 use lib.ListN.{length}
 use Rattle.record.specs.Layout.{recordSize}
-use Rattle.record.proofs.PlaceLaws.{holds-long}
+use Rattle.record.proofs.InPlaceLaws.{holds-long}
 use Rattle.judge.proofs.Checks.{flag-sound, code-open, code-used, code-right, code-wrong}
 use borrow.Author.Needs.{needs}
 use Rattle.judge.proofs.code_access.Statement.{statement}

@@ -1,7 +1,8 @@
+-- `is_open`: the bit read is the flag of configuration mode.
 use Rattle.judge.proofs.Checks.{opened-is}
 use native.Mathlib.Omega.{arith}
 use Rattle.record.specs.Layout.{FlagByte, atFlags}
-use Rattle.record.proofs.PlaceLaws.{reaches}
+use Rattle.record.proofs.InPlaceLaws.{reaches}
 use Rattle.judge.proofs.is_open.Statement.{statement}
 use Rattle.judge.proofs.is_open.Tie as tie
 

@@ -1,7 +1,8 @@
+-- `is_unlocked`: the bit read is the flag of unlocking.
 use Rattle.judge.proofs.Checks.{unlocked-is}
 use native.Mathlib.Omega.{arith}
 use Rattle.record.specs.Layout.{FlagByte, atFlags}
-use Rattle.record.proofs.PlaceLaws.{reaches}
+use Rattle.record.proofs.InPlaceLaws.{reaches}
 use Rattle.judge.proofs.is_unlocked.Statement.{statement}
 use Rattle.judge.proofs.is_unlocked.Tie as tie
 

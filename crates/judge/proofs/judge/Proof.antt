@@ -1,8 +1,9 @@
+-- `judge`: the first check that does not pass gives the verdict of the definition.
 use native.Mathlib.Omega.{arith}
 use mathlib.Core.Path.{_≡_, sym, ap, _∙_}
 use mathlib.Core.Logic.{⊎-elim}
 use lib.ListN.{length}
-use Rattle.record.specs.Place.{Shows}
+use Rattle.record.specs.InPlace.{Shows}
 use Rattle.command.specs.declared.Listed.the-variants.{Built}
 use Rattle.command.specs.declared.Counted.the-variants.{Right}
 use Rattle.command.specs.declared.Need.{Need}

@@ -1,3 +1,4 @@
+-- `interval_fits`: the test of the interval is its range.
 use Rattle.limits.proofs.Tests.{fits-interval}
 use Rattle.limits.proofs.interval_fits.Statement.{statement}
 use Rattle.limits.proofs.interval_fits.Tie as tie

@@ -1,3 +1,4 @@
+-- `name_bytes`: the loop finds a byte above 7F exactly where the name does not fit.
 use native.Mathlib.Omega.{arith}
 use Prim.Native.Nat.{_-_, _≤_}
 use mathlib.Core.Path.{_≡_, refl, sym, ap, _∙_}

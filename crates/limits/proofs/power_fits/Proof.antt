@@ -1,3 +1,4 @@
+-- `power_fits`: the test of the power is its range.
 use Rattle.limits.proofs.Tests.{fits-power}
 use Rattle.limits.proofs.power_fits.Statement.{statement}
 use Rattle.limits.proofs.power_fits.Tie as tie

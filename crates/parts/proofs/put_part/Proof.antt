@@ -1,3 +1,4 @@
+-- `put_part`: a part and the zeros behind it are one store.
 use Rattle.parts.proofs.Turn.{put-part}
 use borrow.Author.Needs.{needs}
 use Rattle.parts.proofs.put_part.Statement.{statement}

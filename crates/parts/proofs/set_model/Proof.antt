@@ -1,7 +1,8 @@
+-- `set_model`: the bytes before the first zero become the model.
 use Prim.Native.Nat.{_+_, _-_, _≤_}
 use lib.ListN.{length}
 use Rattle.record.specs.Layout.{ModelPart, modelRoom}
-use Rattle.record.proofs.PlaceLaws.{reaches}
+use Rattle.record.proofs.InPlaceLaws.{reaches}
 use Rattle.parts.proofs.Turn.{turn-model}
 use native.Mathlib.Omega.{arith}
 use borrow.Author.Needs.{needs}

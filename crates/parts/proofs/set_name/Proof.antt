@@ -1,15 +1,16 @@
+-- `set_name`: the parameters become the name.
 use Rattle.parts.proofs.Turn.{turn-name}
 use native.Mathlib.Omega.{arith}
 use Prim.Native.Nat.{_+_, _≤_}
 use lib.ListN.{length, length-set}
-use Rattle.record.specs.Layout.{NamePart, nameRoom, atName, atNameBytes}
-use Rattle.record.proofs.PlaceLaws.{reaches}
+use Rattle.record.specs.Layout.{NamePart, nameRoom, atNameLength, atName}
+use Rattle.record.proofs.InPlaceLaws.{reaches}
 use borrow.Author.Needs.{needs}
 use Rattle.parts.proofs.set_name.Statement.{statement}
 use Rattle.parts.proofs.set_name.Tie as tie
 
-whole : (c : tie.Start) → atNameBytes + nameRoom ≤ length (c .args .rec .now)
-whole c = omega (arith, reaches NamePart atName (c .args .rec .now) (c .pre .0))
+whole : (c : tie.Start) → atName + nameRoom ≤ length (c .args .rec .now)
+whole c = omega (arith, reaches NamePart atNameLength (c .args .rec .now) (c .pre .0))
 
 cast-rec : tie.Need-cast-rec
 cast-rec c = search needs

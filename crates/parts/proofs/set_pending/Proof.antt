@@ -1,5 +1,6 @@
+-- `set_pending`: the bytes become the pending bytes.
 use Prim.Native.Nat.{suc, _+_, _-_, _≤_, _<_}
-use Rattle.record.proofs.PlaceLaws.{reaches-pending}
+use Rattle.record.proofs.InPlaceLaws.{reaches-pending}
 use Rattle.parts.proofs.Turn.{turn-pending}
 use native.Mathlib.Omega.{arith}
 use lib.ListN.{length, length-set}

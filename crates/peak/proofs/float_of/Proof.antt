@@ -1,3 +1,4 @@
+-- `float_of`: the bits of a pattern are its float's.
 use borrow.Author.Tests.{lt-ltb, le-ltb}
 use lib.Ieee.{ofBits}
 use Rattle.peak.specs.Floats.{floatOf}

@@ -1,3 +1,4 @@
+-- `greater`: the greater of two values, the earlier of equal ones.
 use Rattle.peak.proofs.greater.Statement.{statement}
 use Rattle.peak.proofs.greater.Tie as tie
 

@@ -1,3 +1,4 @@
+-- `seen_next`: a reading goes into the pair.
 use borrow.Author.Needs.{needs}
 use Rattle.peak.proofs.seen_next.Statement.{statement}
 use Rattle.peak.proofs.seen_next.Tie as tie

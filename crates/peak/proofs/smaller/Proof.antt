@@ -1,3 +1,4 @@
+-- `smaller`: the smaller of two values, the earlier of equal ones.
 use Rattle.peak.proofs.smaller.Statement.{statement}
 use Rattle.peak.proofs.smaller.Tie as tie
 

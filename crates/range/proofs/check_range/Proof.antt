@@ -1,3 +1,4 @@
+-- `check_range`: the parameters are tested from the left as the table says, one case for each command.
 use native.Mathlib.Omega.{arith}
 use mathlib.Core.Path.{refl, ap, ap₂, _∙_}
 use Prim.Native.Nat.{_≤_}

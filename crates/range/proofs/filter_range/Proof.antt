@@ -1,3 +1,4 @@
+-- `filter_range`: too big from the bound on.
 use native.Mathlib.Omega.{arith}
 use mathlib.Core.Path.{refl}
 use borrow.Author.Tests.{lt-ltb, le-ltb}

@@ -1,3 +1,4 @@
+-- `interval_range`: too big above 59, too small below 4 but for 0.
 use mathlib.Core.Path.{sym, ap, _∙_}
 use borrow.Author.Needs.{needs}
 use Rattle.record.proofs.Pieces.{fits-is}

@@ -1,3 +1,4 @@
+-- `name_range`: too big where a byte is above 7F.
 use mathlib.Core.Path.{sym, _∙_}
 use Rattle.range.proofs.Ranges.{name-fits, name-big}
 use borrow.Author.Needs.{needs}

@@ -1,3 +1,4 @@
+-- `power_range`: too big above 12, too small below -20.
 use mathlib.Core.Path.{sym, ap, _∙_}
 use borrow.Author.Needs.{needs}
 use borrow.Author.Tests.{lt-ltb, le-ltb}

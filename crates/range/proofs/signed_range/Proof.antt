@@ -1,3 +1,4 @@
+-- `signed_range`: a byte from 80 on is below every range.
 use native.Mathlib.Omega.{arith}
 use mathlib.Core.Path.{refl}
 use borrow.Author.Tests.{lt-ltb, le-ltb}

@@ -1,3 +1,4 @@
+-- `unsigned_range`: too big above the most, too small below the least.
 use mathlib.Core.Path.{refl}
 use borrow.Author.Tests.{lt-ltb, le-ltb}
 use Rattle.range.proofs.unsigned_range.Statement.{statement}

@@ -1,3 +1,4 @@
+-- `mask_of`: the bit of output k is 2 to the power k - 1.
 use Rattle.settings.proofs.Turn.{mask-is}
 use borrow.Author.Needs.{needs}
 use Rattle.settings.proofs.mask_of.Statement.{statement}

@@ -1,9 +1,10 @@
+-- `set_filter`: four stores are the filter word.
 use Rattle.settings.proofs.Turn.{turn-filter}
 use native.Mathlib.Omega.{arith}
 use Prim.Native.Nat.{_+_, _≤_}
 use lib.ListN.{length, length-set}
 use Rattle.record.specs.Layout.{FilterWord}
-use Rattle.record.proofs.PlaceLaws.{reaches}
+use Rattle.record.proofs.InPlaceLaws.{reaches}
 use borrow.Author.Needs.{needs}
 use Rattle.settings.proofs.set_filter.Statement.{statement}
 use Rattle.settings.proofs.set_filter.Tie as tie

@@ -1,7 +1,8 @@
+-- `set_input`: the store is the input type of the channel.
 use Rattle.settings.proofs.Turn.{turn-input}
 use native.Mathlib.Omega.{arith}
 use Rattle.record.specs.Layout.{InputBytes, atInputs}
-use Rattle.record.proofs.PlaceLaws.{reaches}
+use Rattle.record.proofs.InPlaceLaws.{reaches}
 use borrow.Author.Needs.{needs}
 use Rattle.settings.proofs.set_input.Statement.{statement}
 use Rattle.settings.proofs.set_input.Tie as tie

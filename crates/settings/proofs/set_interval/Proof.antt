@@ -1,7 +1,8 @@
+-- `set_interval`: the store is the interval.
 use Rattle.settings.proofs.Turn.{turn-interval}
 use native.Mathlib.Omega.{arith}
 use Rattle.record.specs.Layout.{IntervalByte, atInterval}
-use Rattle.record.proofs.PlaceLaws.{reaches}
+use Rattle.record.proofs.InPlaceLaws.{reaches}
 use borrow.Author.Needs.{needs}
 use Rattle.settings.proofs.set_interval.Statement.{statement}
 use Rattle.settings.proofs.set_interval.Tie as tie

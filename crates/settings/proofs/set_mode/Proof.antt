@@ -1,7 +1,8 @@
+-- `set_mode`: the store is the mode.
 use Rattle.settings.proofs.Turn.{turn-mode}
 use native.Mathlib.Omega.{arith}
 use Rattle.record.specs.Layout.{ModeByte, atMode}
-use Rattle.record.proofs.PlaceLaws.{reaches}
+use Rattle.record.proofs.InPlaceLaws.{reaches}
 use borrow.Author.Needs.{needs}
 use Rattle.settings.proofs.set_mode.Statement.{statement}
 use Rattle.settings.proofs.set_mode.Tie as tie

@@ -1,7 +1,8 @@
+-- `set_on_off`: the store is the on/off state.
 use Rattle.settings.proofs.Turn.{turn-on-off}
 use native.Mathlib.Omega.{arith}
 use Rattle.record.specs.Layout.{OnOffByte, atOnOff}
-use Rattle.record.proofs.PlaceLaws.{reaches}
+use Rattle.record.proofs.InPlaceLaws.{reaches}
 use borrow.Author.Needs.{needs}
 use Rattle.settings.proofs.set_on_off.Statement.{statement}
 use Rattle.settings.proofs.set_on_off.Tie as tie

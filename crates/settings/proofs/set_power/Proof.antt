@@ -1,7 +1,8 @@
+-- `set_power`: two stores are the power.
 use Rattle.settings.proofs.Turn.{turn-power}
 use native.Mathlib.Omega.{arith}
 use Rattle.record.specs.Layout.{PowerHalf, atPower}
-use Rattle.record.proofs.PlaceLaws.{reaches}
+use Rattle.record.proofs.InPlaceLaws.{reaches}
 use lib.ListN.{length-set}
 use borrow.Author.Needs.{needs}
 use Rattle.settings.proofs.set_power.Statement.{statement}

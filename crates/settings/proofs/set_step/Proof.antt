@@ -1,7 +1,8 @@
+-- `set_step`: the store is the LE step.
 use Rattle.settings.proofs.Turn.{turn-step}
 use native.Mathlib.Omega.{arith}
 use Rattle.record.specs.Layout.{StepByte, atStep}
-use Rattle.record.proofs.PlaceLaws.{reaches}
+use Rattle.record.proofs.InPlaceLaws.{reaches}
 use borrow.Author.Needs.{needs}
 use Rattle.settings.proofs.set_step.Statement.{statement}
 use Rattle.settings.proofs.set_step.Tie as tie

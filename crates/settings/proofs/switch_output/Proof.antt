@@ -1,7 +1,8 @@
+-- `switch_output`: only the output's bit changes.
 use Rattle.settings.proofs.Turn.{turn-output-on, turn-output-off}
 use native.Mathlib.Omega.{arith}
 use Rattle.record.specs.Layout.{OutputByte, atOutputs}
-use Rattle.record.proofs.PlaceLaws.{reaches}
+use Rattle.record.proofs.InPlaceLaws.{reaches}
 use Prim.Native.Nat.{_<_}
 use lib.ListN.{length}
 use borrow.Author.Needs.{needs}

@@ -1,3 +1,4 @@
+-- `amplifier_row`: each number of the amplifier's table, and no other.
 use Rattle.command.specs.Tables.{amplifier}
 use Rattle.table.proofs.Rows.{left-out}
 use Rattle.table.proofs.amplifier_row.Statement.{statement}

@@ -1,3 +1,4 @@
+-- `bt121_row`: each number of the BT121 table, and no other.
 use Rattle.command.specs.Tables.{bt121}
 use Rattle.table.proofs.Rows.{left-out}
 use Rattle.table.proofs.bt121_row.Statement.{statement}

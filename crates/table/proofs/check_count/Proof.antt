@@ -1,3 +1,4 @@
+-- `check_count`: right between the least and the most.
 use native.Mathlib.Omega.{arith}
 use mathlib.Core.Path.{sym}
 use Rattle.table.proofs.Rows.{count-low, count-high, count-right}

@@ -1,3 +1,4 @@
+-- `check_number`: the head chooses the table.
 use native.Mathlib.Omega.{arith}
 use Prim.Native.Nat.{_/_}
 use borrow.Author.Tests.{eq-eqb, ne-eqb}

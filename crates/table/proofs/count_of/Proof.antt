@@ -1,3 +1,4 @@
+-- `count_of`: the least and the most of each command are the table's, one case for each command.
 use mathlib.Core.Path.{refl}
 use Rattle.command.specs.Tables.{spanOf}
 use borrow.Author.Needs.{needs}

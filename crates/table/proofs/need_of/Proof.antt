@@ -1,3 +1,4 @@
+-- `need_of`: the need of each command is the table's, one case for each command.
 use mathlib.Core.Path.{refl}
 use Rattle.command.specs.Tables.{needOf}
 use borrow.Author.Needs.{needs}

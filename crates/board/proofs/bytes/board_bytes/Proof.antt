@@ -1,3 +1,4 @@
+-- `board_bytes`: the bytes call leaves its outcome, whichever check refuses it or none.
 use native.Mathlib.Omega.{arith}
 use Rattle.board.proofs.Ends.{good-long, good-sound}
 use Rattle.hunt.proofs.JoinLaws.{held-is, held-few}
@@ -7,7 +8,7 @@ use mathlib.Core.Path.{_≡_, refl, sym, _∙_}
 use mathlib.Core.List.{List}
 use Rattle.wire.specs.Numbers.{Bytes}
 use Rattle.record.specs.Form.{formOf}
-use Rattle.record.specs.Place.{Sound}
+use Rattle.record.specs.InPlace.{Sound}
 use Rattle.record.specs.declared.Form.the-variants.{Good}
 use borrow.Author.Needs.{needs}
 use Rattle.board.proofs.bytes.board_bytes.Statement.{statement}

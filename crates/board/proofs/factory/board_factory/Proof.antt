@@ -1,3 +1,4 @@
+-- `board_factory`: factory leaves its outcome, by the length alone.
 use Rattle.board.proofs.Ends.{factory-refuses, factory-ends}
 use borrow.Author.Needs.{needs}
 use Rattle.board.proofs.factory.board_factory.Statement.{statement}

@@ -1,3 +1,4 @@
+-- `board_power_on`: power-on leaves its outcome, by the record's form.
 use native.Mathlib.Omega.{arith}
 use Rattle.board.proofs.Ends.{power-on-refuses, power-on-ends, good-sound}
 use mathlib.Core.Path.{sym, _∙_}
@@ -23,8 +24,8 @@ same-length c = search needs
 returns : tie.Need-returns
 returns c = power-on-refuses (c .before .before .before .before .before .before .args .rec .now) _ (sym (c .before .before .before .form-of .ensures) ∙ c .before .enum-told2 .given .1) (c .ended .ensures)
 
-switch-on-requires : tie.Need-switch-on-requires
-switch-on-requires c κs = good-sound (c .before .before .before .before .before .before .args .rec .now) (λ i. omega (arith, c .before .before .before .before .before .slice-known .given i)) (sym (c .before .before .before .form-of .ensures) ∙ c .before .enum-told .given .1)
+power-on-requires : tie.Need-power-on-requires
+power-on-requires c κs = good-sound (c .before .before .before .before .before .before .args .rec .now) (λ i. omega (arith, c .before .before .before .before .before .slice-known .given i)) (sym (c .before .before .before .form-of .ensures) ∙ c .before .enum-told .given .1)
 
 ended-requires-2 : tie.Need-ended-requires-2
 ended-requires-2 c κs = search needs
@@ -35,7 +36,7 @@ same-length-2 c = search needs
 returns-2 : tie.Need-returns-2
 returns-2 c =
     let s = c .before .before .before .before .before .before .before .before .before .before in
-    power-on-ends (s .args .rec .now) _ (λ i. omega (arith, c .before .before .before .before .before .before .before .before .before .slice-known .given i)) (sym (c .before .before .before .before .before .before .before .form-of .ensures) ∙ c .before .before .before .before .before .enum-told .given .1) _ (c .before .before .before .switch-on .ensures) (c .ended2 .ensures)
+    power-on-ends (s .args .rec .now) _ (λ i. omega (arith, c .before .before .before .before .before .before .before .before .before .slice-known .given i)) (sym (c .before .before .before .before .before .before .before .form-of .ensures) ∙ c .before .before .before .before .before .enum-told .given .1) _ (c .before .before .before .power-on .ensures) (c .ended2 .ensures)
 
 pub board-power-on-spec : {M : Type 1} → statement M
 board-power-on-spec =
@@ -47,7 +48,7 @@ board-power-on-spec =
     ended-requires
     same-length
     returns
-    switch-on-requires
+    power-on-requires
     ended-requires-2
     same-length-2
     returns-2)

@@ -1,3 +1,4 @@
+-- `board_samples`: the samples call leaves its outcome, whichever check refuses it or none, with sending on and off.
 use mathlib.Core.Path.{_≡_, refl, sym, _∙_}
 use mathlib.Core.Bool.{true}
 use borrow.Author.Tests.{not-true, not-false}
@@ -77,8 +78,8 @@ take-reading-requires c κs =
     let z = c .before .before .before .before .before .before .before .before .before .before .before .before .args in
     (good-sound (z .rec .now) (λ i. c .before .before .before .before .before .before .before .before .before .before .before .slice-known .given i .fits) (good (c .before .before .before .before .before)), (c .before .before .before .before .if1 .left, finite (c .before)))
 
-put-frame-requires : tie.Need-put-frame-requires
-put-frame-requires c κs = search needs
+put-measuring-frame-requires : tie.Need-put-measuring-frame-requires
+put-measuring-frame-requires c κs = search needs
 
 same-length-5 : tie.Need-same-length-5
 same-length-5 c = search needs
@@ -90,7 +91,7 @@ returns-5 : tie.Need-returns-5
 returns-5 c =
     let z = c .before .before .before .before .before .before .before .before .before .before .before .before .before .before .before .before .before .before .before .before .args in
     let t = c .before .before .before .before .before .before .before .take-reading in
-    sent (z .rec .now) (z .sample .now) (z .out .now) _ (good (c .before .before .before .before .before .before .before .before .before .before .before .before .before)) (c .before .before .before .before .before .before .before .before .before .before .before .before .if1 .left) (c .before .before .before .before .before .before .before .before .before .before .before .if2 .left) (finite (c .before .before .before .before .before .before .before .before .before)) _ (t .ensures .1) (sym (t .ensures .0) ∙ c .before .before .before .before .if4 .taken) _ (c .before .before .put-frame .ensures) refl
+    sent (z .rec .now) (z .sample .now) (z .out .now) _ (good (c .before .before .before .before .before .before .before .before .before .before .before .before .before)) (c .before .before .before .before .before .before .before .before .before .before .before .before .if1 .left) (c .before .before .before .before .before .before .before .before .before .before .before .if2 .left) (finite (c .before .before .before .before .before .before .before .before .before)) _ (t .ensures .1) (sym (t .ensures .0) ∙ c .before .before .before .before .if4 .taken) _ (c .before .before .put-measuring-frame .ensures) refl
 
 ended-requires-5 : tie.Need-ended-requires-5
 ended-requires-5 c κs = search needs
@@ -125,7 +126,7 @@ board-samples-spec =
     same-length-4
     returns-4
     take-reading-requires
-    put-frame-requires
+    put-measuring-frame-requires
     same-length-5
     same-length-6
     returns-5

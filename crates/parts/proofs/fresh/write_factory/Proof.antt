@@ -1,3 +1,4 @@
+-- `write_factory`: the bytes written are those of the factory record.
 use native.Mathlib.Omega.{arith}
 use Rattle.parts.proofs.Stores.{factory-stores}
 use lib.ListN.{length-set}

@@ -1,3 +1,4 @@
+-- `after_reading`: every pair is what the reading makes of it.
 use mathlib.Core.Path.{_≡_}
 use lib.ListN.{length}
 use Rattle.reading.proofs.Readings.{length-mapped, after-elements}

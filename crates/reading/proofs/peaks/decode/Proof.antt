@@ -1,3 +1,4 @@
+-- `decode`: the six pairs are those of the record's bytes.
 use native.Mathlib.Omega.{arith}
 use Rattle.reading.proofs.Readings.{six-decoded, first-there}
 use borrow.Author.Needs.{needs}

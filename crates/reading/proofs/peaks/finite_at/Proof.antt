@@ -1,3 +1,4 @@
+-- `finite_at`: one reading of a sample is finite.
 use borrow.Author.Needs.{needs}
 use Rattle.reading.proofs.peaks.finite_at.Statement.{statement}
 use Rattle.reading.proofs.peaks.finite_at.Tie as tie

@@ -1,3 +1,4 @@
+-- `finite_sample`: all six readings are finite.
 use Rattle.reading.proofs.Readings.{all-finite}
 use borrow.Author.Needs.{needs}
 use Rattle.reading.proofs.peaks.finite_sample.Statement.{statement}

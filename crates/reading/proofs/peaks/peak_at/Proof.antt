@@ -1,3 +1,4 @@
+-- `peak_at`: one pair is that of the bytes at its place.
 use borrow.Author.Needs.{needs}
 use Rattle.reading.proofs.peaks.peak_at.Statement.{statement}
 use Rattle.reading.proofs.peaks.peak_at.Tie as tie

@@ -1,3 +1,4 @@
+-- `put_back`: the stored pairs are those of the record after the reading.
 use mathlib.Core.Path.{_≡_, _∙_}
 use mathlib.Core.Bool.{cond}
 use native.Mathlib.Omega.{arith}

@@ -1,3 +1,4 @@
+-- `put_peak`: the bytes of one pair are stored at its place.
 use Rattle.reading.proofs.Readings.{peak-stored}
 use borrow.Author.Needs.{needs}
 use Rattle.reading.proofs.peaks.put_peak.Statement.{statement}

@@ -1,3 +1,4 @@
+-- `put_three`: three pairs in a row are stored.
 use Rattle.reading.proofs.Readings.{three-stored}
 use borrow.Author.Needs.{needs}
 use Rattle.reading.proofs.peaks.put_three.Statement.{statement}

@@ -1,3 +1,4 @@
+-- `put_word`: four bytes are stored, high byte first.
 use native.Mathlib.Omega.{arith}
 use lib.ListN.{length-set}
 use native.Mathlib.Numerals.{towards-suc}

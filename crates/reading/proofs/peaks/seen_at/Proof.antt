@@ -1,3 +1,4 @@
+-- `seen_at`: one channel's pair after its reading.
 use mathlib.Core.Path.{_∙_}
 use borrow.Author.Needs.{needs}
 use Rattle.reading.proofs.peaks.seen_at.Statement.{statement}

@@ -1,3 +1,4 @@
+-- `take_reading`: the record after a reading, with its flag.
 use mathlib.Core.Path.{_≡_, sym, ap, subst, _∙_}
 use Rattle.wire.specs.Numbers.{Bytes}
 use Rattle.record.specs.Layout.{atPairs, recordOf}

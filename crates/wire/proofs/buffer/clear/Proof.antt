@@ -1,3 +1,4 @@
+-- `clear`: the loop leaves zeros from one place up to another.
 use native.Mathlib.Omega.{arith}
 use Rattle.wire.specs.Numbers.{put}
 use Rattle.wire.proofs.PutLaws.{put-nil, put-zeros}

@@ -1,3 +1,4 @@
+-- `put_in`: the loop leaves the bytes in the buffer from a place on.
 use native.Mathlib.Omega.{arith}
 use Rattle.wire.specs.Numbers.{put}
 use Rattle.wire.proofs.PutLaws.{put-nil, put-more}

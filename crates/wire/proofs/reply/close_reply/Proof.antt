@@ -1,3 +1,4 @@
+-- `close_reply`: the four bytes around the data make a reply.
 use native.Mathlib.Omega.{arith}
 use Rattle.wire.proofs.ReplyLaws.{kind-room}
 use lib.ListN.{length-set}

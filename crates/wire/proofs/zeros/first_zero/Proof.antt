@@ -1,3 +1,4 @@
+-- `first_zero`: the place found is that of the first zero, or the end.
 use native.Mathlib.Omega.{arith}
 use Prim.Native.Nat.{_+_, _-_, _≤_}
 use mathlib.Core.Path.{_≡_, refl}

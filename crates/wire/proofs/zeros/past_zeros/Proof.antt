@@ -1,3 +1,4 @@
+-- `past_zeros`: the words that are passed are zeros.
 use native.Mathlib.Omega.{arith}
 use Prim.Native.Nat.{_-_, _≤_}
 use mathlib.Core.Path.{_≡_, refl, sym, _∙_}

@@ -1,3 +1,4 @@
+-- `zeros`: the loop finds a byte that is not zero exactly where there is one.
 use native.Mathlib.Omega.{arith}
 use Prim.Native.Nat.{_-_, _≤_}
 use mathlib.Core.Path.{_≡_, sym, _∙_}

@@ -1,0 +1,138 @@
+-- Demand 2: a command takes effect exactly when it is legal, and every frame of a stream is carried out in its turn.
+use Prim.Native.Nat.{ℕ, _+_, _*_, _%_, _≤_, _<_}
+use mathlib.Core.Path.{_≡_}
+use mathlib.Core.Logic.{_↔_, _≢_}
+use mathlib.Core.Bool.{true, false}
+use mathlib.Core.List.{List, [], _∷_, _++_}
+use lib.ListN.{length, getD, take, drop, replicate}
+use Rattle.wire.specs.Frames.{Piece, Whole, Broken, stop, skipOne, takeOne, tearOne, cut}
+use Rattle.wire.specs.Serial.{isHead, serial, headOf, numberOf, paramsOf}
+use Rattle.wire.specs.Replies.{Reply, kindOf, written}
+use Rattle.wire.specs.Run.{runs}
+use Rattle.wire.specs.declared.Range.{Range}
+use Rattle.wire.specs.declared.Range.the-variants.{Fits, Big, Small}
+use Rattle.record.specs.Record.{Record, withTries, withPending}
+use Rattle.record.specs.Layout.{recordSize, recordOf}
+use Rattle.record.specs.Form.{InRange}
+use Rattle.record.specs.Births.{factory, poweredOn}
+use Rattle.command.specs.declared.Command.{Command}
+use Rattle.command.specs.declared.Command.the-variants.{ReadPair}
+use Rattle.command.specs.declared.Listed.{Listed}
+use Rattle.command.specs.declared.Listed.the-variants.{Built, NotBuilt, Unlisted}
+use Rattle.command.specs.declared.Counted.{Counted}
+use Rattle.command.specs.declared.Counted.the-variants.{Right, Wrong}
+use Rattle.command.specs.declared.Access.{Access}
+use Rattle.command.specs.declared.Access.the-variants.{Given, Missing, WrongCode}
+use Rattle.command.specs.Tables.{listedOf, countedOf, needOf, rangeOf}
+use Rattle.command.specs.Judge.{accessOf}
+use Rattle.command.specs.Effects.{effectOf, dataOf}
+use Rattle.command.specs.Step.{stepOf, onPiece}
+use Rattle.call.specs.Outcome.{done}
+use Rattle.call.specs.Ending.{NoReason}
+use Rattle.board.specs.Calls.{factoryCall, powerOnCall, bytesCall, afterSample, samplesCall}
+use Rattle.demands.specs.CallList.{Malformed, bytesReasons, samplesReasons}
+
+-- ---- one frame f, on a board with the record r
+
+module _ (r : Record) (f : List ℕ) where
+  -- what the tables say of its number, its parameter count, its access and its parameters
+  abbrev pub number : Listed
+  number = listedOf (headOf f) (numberOf f)
+
+  abbrev pub count : Command → Counted
+  count c = countedOf c (length (paramsOf f))
+
+  abbrev pub access : Command → Access
+  access c = accessOf (needOf c) r (paramsOf f)
+
+  abbrev pub range : Command → Range
+  range c = rangeOf c (paramsOf f)
+
+  -- all four are legal
+  abbrev pub Legal : Command → Type 0
+  Legal c = (number ≡ Built c) × (count c ≡ Right) × (access c ≡ Given) × (range c ≡ Fits)
+
+  -- it leaves this record, and is answered by this status and these data
+  abbrev pub Gives : Record → ℕ → List ℕ → Type 0
+  Gives after status body = stepOf r f ≡ record { after = after; reply = record { kind = kindOf (headOf f); status = status; body = body } }
+
+  pub record AsListed : Type 0 where
+    -- A command takes effect exactly when number, parameter count, access and parameters are legal,
+    pub exactly : (stepOf r f .reply .status ≡ 0x00) ↔ ((c : Command) × Legal c)
+    -- and then the effect and the reply are the listed ones.
+    pub effect : (c : Command) → Legal c → Gives (effectOf c r (paramsOf f)) 0x00 (dataOf c r (paramsOf f))
+    -- A refused one has the status of the first cause of the table and no data,
+    pub unknown : number ≡ Unlisted → Gives r 0x40 []
+    pub unbuilt : number ≡ NotBuilt → Gives r 0x41 []
+    pub miscounted : (c : Command) → number ≡ Built c → count c ≡ Wrong → Gives r 0x5B []
+    pub no-access : (c : Command) → number ≡ Built c → count c ≡ Right → access c ≡ Missing → Gives r 0x62 []
+    pub wrong-code : (c : Command) → number ≡ Built c → count c ≡ Right → access c ≡ WrongCode → Gives (withTries r (r .tries + 1)) 0x62 []
+    pub too-big : (c : Command) → number ≡ Built c → count c ≡ Right → access c ≡ Given → range c ≡ Big → Gives r 0x54 []
+    pub too-small : (c : Command) → number ≡ Built c → count c ≡ Right → access c ≡ Given → range c ≡ Small → Gives r 0x55 []
+    -- and changes nothing but the tries.
+    pub unchanged : stepOf r f .reply .status ≢ 0x00 → withTries (stepOf r f .after) (r .tries) ≡ r
+
+-- "Before any reading 53 gives 00 and eight zero bytes."
+abbrev pub BeforeReading : Type 0
+BeforeReading = (r : Record) (f : List ℕ) → InRange r → r .flags .reading ≡ false → Legal r f ReadPair → Gives r f r 0x00 (0x00 ∷ replicate 8 0x00)
+
+-- ---- a stream l: the hunt from the left
+
+module _ (l : List ℕ) where
+  -- so many parameters does the byte behind the AA announce
+  abbrev pub announced : ℕ
+  announced = getD l 1 0 % 16
+
+  abbrev pub Headed : Type 0
+  Headed = (getD l 0 0 ≡ 0xAA) × (1 < length l) × (isHead (getD l 1 0) ≡ true)
+
+  pub record SixLines : Type 0 where
+    -- "A byte other than AA is skipped."
+    pub other : 0 < length l → getD l 0 0 ≢ 0xAA → cut serial l ≡ skipOne (cut serial (drop 1 l))
+    -- "AA with nothing after it waits."
+    pub alone : getD l 0 0 ≡ 0xAA → length l ≡ 1 → cut serial l ≡ stop l
+    -- "AA followed by a byte that is no 9n or An: the AA is skipped."
+    pub headless : getD l 0 0 ≡ 0xAA → 1 < length l → isHead (getD l 1 0) ≡ false → cut serial l ≡ skipOne (cut serial (drop 1 l))
+    -- "A good head with fewer than 4 + n bytes present waits."
+    pub unfinished : Headed → length l < 4 + announced → cut serial l ≡ stop l
+    -- "All present and the last is 85: the frame is carried out and replied to, and the hunt goes on behind it."
+    pub frame : Headed → 4 + announced ≤ length l → getD l (3 + announced) 0 ≡ 0x85 → cut serial l ≡ takeOne (take (4 + announced) l) (cut serial (drop (4 + announced) l))
+    -- "All present and the last isn't 85: the AA is skipped without a reply, and the hunt goes on at the byte after that AA."
+    pub broken : Headed → 4 + announced ≤ length l → getD l (3 + announced) 0 ≢ 0x85 → cut serial l ≡ tearOne (getD l 1 0) (cut serial (drop 1 l))
+
+-- ---- its pieces, one after the other
+
+pub record InTurn : Type 0 where
+  -- Every frame of a stream is carried out on the record that those before it left, and its reply stands behind theirs.
+  pub frame : (r : Record) (ps qs : List Piece) (f : List ℕ)
+      → let before = runs onPiece r ps in
+      let step = stepOf (before .state) f in
+      let after = runs onPiece (step .after) qs in
+      runs onPiece r (ps ++ Whole f ∷ qs) ≡ record { state = after .state; said = before .said ++ step .reply ∷ after .said }
+  -- A broken head is passed in silence.
+  pub broken : (r : Record) (ps qs : List Piece) (head : ℕ) → runs onPiece r (ps ++ Broken head ∷ qs) ≡ runs onPiece r (ps ++ qs)
+  -- "Replies: AA, 5n or 6n (amplifier or BT121), status, n bytes, 85."
+  pub reply : (a : Reply) (said : List Reply) → written (a ∷ said) ≡ 0xAA ∷ (a .kind * 16 + length (a .body)) ∷ a .status ∷ (a .body ++ 0x85 ∷ []) ++ written said
+  -- A bytes call that nothing stops cuts pending bytes and input into pieces, answers them in turn, and counts what the cut skipped.
+  pub call : (s input o : List ℕ) → NoReason (bytesReasons s input o)
+      → let c = cut serial (recordOf s .pending ++ input) in
+      let run = runs onPiece (recordOf s) (c .pieces) in
+      bytesCall s input o ≡ done (withPending (run .state) (c .waiting)) (written (run .said)) (c .skipped) o
+
+-- ---- the other three calls, when nothing stops them
+
+pub record OtherCalls : Type 0 where
+  -- Factory writes a new record.
+  pub new-record : (s : List ℕ) → length s ≡ recordSize → factoryCall s ≡ done factory [] 0 []
+  -- Power-on keeps the code, the settings and the model, and nothing else.
+  pub switched-on : (s : List ℕ) → ¬ Malformed s → powerOnCall s ≡ done (poweredOn (recordOf s)) [] 0 []
+  -- A reading goes into the pairs and, with sending on, out as a measuring frame.
+  pub reading : (s sample o : List ℕ) → NoReason (samplesReasons s sample o) → samplesCall s sample o ≡ afterSample (recordOf s) sample o
+
+-- The board answers as the tables say.
+pub record AnswersAsListed : Type 0 where
+  pub each-frame : (r : Record) (f : List ℕ) → AsListed r f
+  pub before-reading : BeforeReading
+  pub hunted : (l : List ℕ) → SixLines l
+  pub in-turn : InTurn
+  pub others : OtherCalls
