@@ -41,7 +41,7 @@ module _ {n : ℕ} (ps : List (PK n)) (q : RK n) where
     one = λ κs a r u s v p w. left (outcome κs a) (seen κs r s) (says κs a r s) p ∙ sym (left (outcome κs a) (seen κs u v) (says κs a u v) w);
   }
 
--- the first, second and third list that a call is lent, and what it leaves with or without an output buffer
+-- κs are lifetimes and play no part; a is what the call is lent, r its result, s the buffers when it ends. `.0`, `.1 .0` and `.1 .1 .0` are the first, second and third of them: record, input, output.
 pub record AllExported : Type 1 where
   pub factory : Exported factory-kinds.ps factory-kinds.r factory.Pre factory.Post (λ κs a. factoryCall (now (a .0))) (λ κs r s. record { answer = r; kept = now (s .0); output = [] })
   pub power-on : Exported power-on-kinds.ps power-on-kinds.r power-on.Pre power-on.Post (λ κs a. powerOnCall (now (a .0))) (λ κs r s. record { answer = r; kept = now (s .0); output = [] })

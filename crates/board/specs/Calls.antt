@@ -24,7 +24,7 @@ use Rattle.call.specs.Outcome.{Outcome, done, Cause, cause, bad, inOrder}
 abbrev pub factoryCauses : List ℕ → List Cause
 factoryCauses s = cause (not (eqb (length s) recordSize)) BadRecord ∷ []
 
--- "factory (write a new record)"
+-- "factory (write a new record)"; "factory and power-on: 0 and 0"
 unfoldable pub factoryCall : List ℕ → Outcome
 unfolding factory bytesOf put
 factoryCall s = inOrder (factoryCauses s) s [] (done factory [] 0 [])
@@ -33,7 +33,7 @@ factoryCall s = inOrder (factoryCauses s) s [] (done factory [] 0 [])
 abbrev pub powerOnCauses : List ℕ → List Cause
 powerOnCauses s = cause (bad (formOf s)) BadRecord ∷ []
 
--- power-on: what it leaves is `poweredOn` of record/specs/Births
+-- power-on, "factory and power-on: 0 and 0": what it leaves is `poweredOn` of record/specs/Births
 unfoldable pub powerOnCall : List ℕ → Outcome
 unfolding poweredOn bytesOf recordOf put wellFormed
 powerOnCall s = inOrder (powerOnCauses s) s [] (done (poweredOn (recordOf s)) [] 0 [])
@@ -59,7 +59,7 @@ bytesCall s input o = inOrder (bytesCauses s input o) s o (afterBytes (huntOf (r
 
 -- ---- samples
 
--- "24 bytes, six 32-bit floats, all finite"
+-- "24 bytes, six 32-bit floats, all finite"; `channels` is 6
 abbrev pub sampleSize : ℕ
 sampleSize = 4 * channels
 
@@ -80,7 +80,7 @@ samplesCauses s sample o =
     ∷ cause (not (allFinite channels sample 0)) NotFinite
     ∷ []
 
--- "If sending is on, the output gets AA 15 B0, the 24 bytes, 85 (28 bytes); else nothing."; nothing is skipped
+-- "If sending is on, the output gets AA 15 B0, the 24 bytes, 85 (28 bytes); else nothing."; "samples: 28 or 0, and 0"
 abbrev pub afterSample : Record → List ℕ → List ℕ → Outcome
 afterSample r sample o = done (readingOf r sample) (cond (r .flags .sending) (measuringFrame channels sample) []) 0 o
 

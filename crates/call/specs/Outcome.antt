@@ -13,13 +13,15 @@ use Rattle.call.specs.declared.Ending.{Ending}
 use Rattle.call.specs.declared.Ending.the-variants.{Done, BadRecord, BadLength, NoRoom, NotFinite}
 use Rattle.call.specs.declared.Answer.{Answer}
 
--- the number of each ending
+-- the column "no." of the table of call results
 abbrev pub resultOf : Ending → ℕ
 resultOf Done = 0
 resultOf BadRecord = 1
 resultOf BadLength = 2
 resultOf NoRoom = 3
 resultOf NotFinite = 4
+
+-- Letters, here and in all that follows: s the record's bytes and o the output buffer as a call finds them, z an outcome, r a record value, f a frame, l a stream; p is parameters in `command`, a layout in `record`.
 
 -- the answer, the record's bytes, the output buffer ([] for a call without one)
 pub record Outcome : Type 0 where
@@ -31,7 +33,7 @@ pub record Outcome : Type 0 where
 abbrev pub zeroes : Ending → Answer
 zeroes why = record { result = resultOf why; written = 0; skipped = 0 }
 
--- "A refusal returns its number and zero counts, and writes to no buffer."
+-- "A refusal returns its number and zero counts, and writes to no buffer."; the input is lent for reading only
 abbrev pub refused : Ending → List ℕ → List ℕ → Outcome
 refused why s o = record { answer = zeroes why; kept = s; output = o }
 
@@ -59,7 +61,7 @@ abbrev pub inOrder : List Cause → List ℕ → List ℕ → Outcome → Outcom
 inOrder [] s o z = z
 inOrder (c ∷ causes) s o z = cond (c .applies) (refused (c .why) s o) (inOrder causes s o z)
 
--- ---- what a call's contract says: it left exactly its outcome
+-- ---- "the contract determines results, record and output buffer completely, refusals included": the call left exactly its outcome
 
 pub record Leaves (z : Outcome) (answer : Answer) (kept output : List ℕ) : Type 0 where
   pub answered : answer ≡ z .answer

@@ -12,9 +12,10 @@ use Rattle.record.specs.Layout.{modelRoom}
 use Rattle.command.specs.declared.Command.{Command}
 use Rattle.command.specs.declared.Command.the-variants.{Open, Close, ReadPower, SetPower, ReadStep, SetStep, ReadMode, SetMode, ReadName, SetName, ReadOnOff, SetOnOff, SetInput, ReadInput, SwitchOutput, SetInterval, ReadInterval, Unlock, ReadLock, ReadModel, SetModel, StopSending, StartSending, ReadFilter, SetFilter, ReadPair}
 
--- What each command does, under its number and the words of the table. E0: "opens configuration mode, also if open"
+-- What each command does, under its number and the words of the table.
 unfoldable pub effectOf : Command → Record → List ℕ → Record
 unfolding withFlags withSettings withOutputs withModel beforeZero
+-- E0: "opens configuration mode, also if open"
 effectOf Open r p = withFlags r (withOpened (r .flags) true)
 -- E1: "closes it"
 effectOf Close r p = withFlags r (withOpened (r .flags) false)
@@ -62,22 +63,28 @@ effectOf ReadPair r p = r
 abbrev pub modelData : List ℕ → List ℕ
 modelData m = m ++ cond (ltb (length m) modelRoom) (0x00 ∷ []) []
 
--- The data of its reply, those of a command that sets are none. E0: "00 14"
+-- The data of the reply; none for a command that closes, sets, switches, unlocks, stops or starts.
 unfoldable pub dataOf : Command → Record → List ℕ → List ℕ
+-- E0: "00 14"
 dataOf Open r p = 0x00 ∷ 0x14 ∷ []
 dataOf Close r p = []
 -- E2: "Classic power (2 bytes)"
 dataOf ReadPower r p = bytes2 (r .settings .power)
 dataOf SetPower r p = []
+-- E4: LE power step
 dataOf ReadStep r p = r .settings .step ∷ []
 dataOf SetStep r p = []
+-- E6: mode
 dataOf ReadMode r p = r .settings .mode ∷ []
 dataOf SetMode r p = []
+-- E8: name
 dataOf ReadName r p = r .settings .name
 dataOf SetName r p = []
+-- ED: on/off state
 dataOf ReadOnOff r p = r .settings .onOff ∷ []
 dataOf SetOnOff r p = []
 dataOf SetInput r p = []
+-- F0: input type; that of channel 2 is the first
 dataOf ReadInput r p = getD (r .settings .inputs) (getD p 0 0 - 2) 0 ∷ []
 dataOf SwitchOutput r p = []
 dataOf SetInterval r p = []
@@ -91,6 +98,7 @@ dataOf ReadModel r p = modelData (r .model)
 dataOf SetModel r p = []
 dataOf StopSending r p = []
 dataOf StartSending r p = []
+-- 51: filter word
 dataOf ReadFilter r p = bytes4 (r .settings .filter)
 dataOf SetFilter r p = []
 -- 53: "00, greatest, smallest (floats)"; the pair of channel 1 is the first

@@ -47,10 +47,10 @@ accessOf Opened r p = cond (r .flags .opened) Given Missing
 accessOf Closed r p = cond (r .flags .opened) Missing Given
 -- 2, 3
 accessOf Unlocked r p = cond (r .flags .opened) Missing (cond (r .flags .unlocked) Given Missing)
--- 2, 4, 5
+-- 2, 4, 5; 19: "compare with the code"
 accessOf Code r p = cond (r .flags .opened) Missing (cond (leb 3 (r .tries)) Missing (cond (eqb (wordAt p 0) (r .code)) Given WrongCode))
 
--- ---- "In this order; the first that applies is the reply": a check refuses, or the next one is asked
+-- ---- a check refuses, or the next one is asked
 
 -- "40 number not listed for this head", "41 listed as known but not built"
 abbrev pub byNumber : Listed → (Command → Verdict) → Verdict
@@ -79,7 +79,7 @@ byRange Fits next = next
 abbrev pub judged : Record → List ℕ → Command → Verdict
 judged r p c = byCount (countedOf c (length p)) (byAccess (accessOf (needOf c) r p) (byRange (rangeOf c p) (Do c)))
 
--- a number under a head with the parameters p
+-- "In this order; the first that applies is the reply": a number under a head with the parameters p
 unfoldable pub verdictOf : Record → ℕ → ℕ → List ℕ → Verdict
 unfolding listedOf spanOf countedOf needOf accessOf rangeOf
 verdictOf r head number p = byNumber (listedOf head number) (judged r p)

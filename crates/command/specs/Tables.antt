@@ -32,7 +32,7 @@ row n c = record { number = n; listed = Built c }
 abbrev pub unbuilt : ℕ → CommandRow
 unbuilt n = record { number = n; listed = NotBuilt }
 
--- "Known but not built: EA, EC, EF."
+-- the table's column "no."; "Known but not built: EA, EC, EF."
 abbrev pub bt121 : List CommandRow
 bt121 =
     row 0xE0 Open
@@ -57,7 +57,7 @@ bt121 =
     ∷ unbuilt 0xEF
     ∷ []
 
--- "Known but not built: 17, 18, 50, 54, 55."
+-- the table's column "no."; "Known but not built: 17, 18, 50, 54, 55."
 abbrev pub amplifier : List CommandRow
 amplifier =
     row 0x19 Unlock
@@ -138,11 +138,12 @@ spanOf SetFilter = exactly 4
 -- 53: "channel 1..6, unsigned"
 spanOf ReadPair = exactly 1
 
--- 5B: "wrong number of parameters"
+-- the answer of a test
 abbrev pub countedBy : Bool → Counted
 countedBy true = Right
 countedBy false = Wrong
 
+-- 5B: "wrong number of parameters"
 unfoldable pub countedOf : Command → ℕ → Counted
 unfolding spanOf
 countedOf c n = countedBy (leb (spanOf c .least) n && leb n (spanOf c .most))
@@ -151,7 +152,9 @@ countedOf c n = countedBy (leb (spanOf c .least) n && leb n (spanOf c .most))
 
 -- "a BT121 command other than E0 with configuration mode closed; any amplifier command with it open; 1C while locked; 19 with three wrong tries used; 19 with a wrong code": what each need asks is `accessOf` of `Judge`
 unfoldable pub needOf : Command → Need
+-- E0
 needOf Open = Nothing
+-- E1 to F3: "other than E0"
 needOf Close = Opened
 needOf ReadPower = Opened
 needOf SetPower = Opened
@@ -168,10 +171,14 @@ needOf ReadInput = Opened
 needOf SwitchOutput = Opened
 needOf SetInterval = Opened
 needOf ReadInterval = Opened
+-- 19
 needOf Unlock = Code
+-- 1A, 1B
 needOf ReadLock = Closed
 needOf ReadModel = Closed
+-- 1C
 needOf SetModel = Unlocked
+-- 23 to 53
 needOf StopSending = Closed
 needOf StartSending = Closed
 needOf ReadFilter = Closed
@@ -180,47 +187,63 @@ needOf ReadPair = Closed
 
 -- ---- in which range
 
--- "channel 2..6", "output 1..4, 0..1": signed; "channel 1..6, unsigned", as many as the layout has
+-- EB, F0: "channel 2..6", signed
 abbrev pub inputChannel : ℕ → Range
 inputChannel b = within (pos 2) (pos 6) (signed8 b)
 
+-- F1: "output 1..4", signed
 abbrev pub outputNumber : ℕ → Range
 outputNumber b = within (pos 1) (pos 4) (signed8 b)
 
+-- F1: "0..1", signed
 abbrev pub outputValue : ℕ → Range
 outputValue b = within (pos 0) (pos 1) (signed8 b)
 
+-- 53: "channel 1..6, unsigned", as many as the layout has: `channels` of `plan1` is 6
 abbrev pub pairChannel : ℕ → ℕ → Range
 pairChannel most b = unsigned 1 most b
 
 -- the range of each command's parameters, "parameters from the left"; l has the numbers that differ between layouts: channels and filter bound
 unfoldable pub rangeIn : Plan → Command → List ℕ → Range
 unfolding nameRange
+-- E0, E1
 rangeIn l Open p = Fits
 rangeIn l Close p = Fits
+-- E2, E3
 rangeIn l ReadPower p = Fits
 rangeIn l SetPower p = powerRange (halfAt p 0)
+-- E4, E5
 rangeIn l ReadStep p = Fits
 rangeIn l SetStep p = stepRange (getD p 0 0)
+-- E6, E7
 rangeIn l ReadMode p = Fits
 rangeIn l SetMode p = modeRange (getD p 0 0)
+-- E8, E9
 rangeIn l ReadName p = Fits
 rangeIn l SetName p = nameRange p
+-- ED, EE
 rangeIn l ReadOnOff p = Fits
 rangeIn l SetOnOff p = onOffRange (getD p 0 0)
+-- EB, F0
 rangeIn l SetInput p = also (inputChannel (getD p 0 0)) (inputRange (getD p 1 0))
 rangeIn l ReadInput p = inputChannel (getD p 0 0)
+-- F1
 rangeIn l SwitchOutput p = also (outputNumber (getD p 0 0)) (outputValue (getD p 1 0))
+-- F2, F3
 rangeIn l SetInterval p = intervalRange (getD p 0 0)
 rangeIn l ReadInterval p = Fits
+-- 19, 1A, 1B, 1C: any bytes
 rangeIn l Unlock p = Fits
 rangeIn l ReadLock p = Fits
 rangeIn l ReadModel p = Fits
 rangeIn l SetModel p = Fits
+-- 23, 24
 rangeIn l StopSending p = Fits
 rangeIn l StartSending p = Fits
+-- 51, 52
 rangeIn l ReadFilter p = Fits
 rangeIn l SetFilter p = filterRange (l .filters) (wordAt p 0)
+-- 53
 rangeIn l ReadPair p = pairChannel (l .channels) (getD p 0 0)
 
 unfoldable pub rangeOf : Command → List ℕ → Range

@@ -1,4 +1,5 @@
 -- Two boards that differ in nothing but perhaps the unlock code, and when a stream carries neither code.
+-- "Demand 3 alone would admit some of these, so it is stated over demand 2's definitions.": over `onPiece`, `listedOf` and `countedOf`.
 use Prim.Native.Nat.{ℕ, _+_, _≤_, _<_}
 use mathlib.Core.Path.{_≡_}
 use mathlib.Core.Logic.{_↔_, _≢_}

@@ -50,14 +50,16 @@ pairFits true p = finite (p .greatest) && finite (p .smallest) && leb (key (p .s
 abbrev pub pairAt : List ℕ → ℕ → Pair
 pairAt s at = record { greatest = wordAt s at; smallest = wordAt s (at + 4) }
 
--- n pairs from a place of s on, and the bytes of n pairs of a list from its i-th on
+-- n pairs from a place of s on
 abbrev pub pairsAt : ℕ → List ℕ → ℕ → List Pair
 pairsAt zero s at = []
 pairsAt (suc n) s at = pairAt s at ∷ pairsAt n s (at + 8)
 
+-- 53: "greatest, smallest (floats)"
 abbrev pub pairBytes : Pair → List ℕ
 pairBytes p = bytes4 (p .greatest) ++ bytes4 (p .smallest)
 
+-- the bytes of n pairs of a list from its i-th on
 abbrev pub pairsBytes : ℕ → List Pair → ℕ → List ℕ
 pairsBytes zero pairs i = []
 pairsBytes (suc n) pairs i = pairBytes (getD pairs i noPair) ++ pairsBytes n pairs (suc i)

@@ -10,8 +10,7 @@ use lib.Seq.{sets, take-at, drop-at}
 use borrow.Author.Tests.{eqb-true, eq-eqb}
 use Rattle.wire.proofs.NumberLaws.{part-is}
 use Rattle.wire.specs.Numbers.{bytesAt}
-use Rattle.record.specs.Layout.{Part, SizeBytes, VersionByte, FlagByte, TriesByte, CodeWord, PowerHalf, StepByte, ModeByte, OnOffByte, InputBytes, OutputByte, IntervalByte, FilterWord, NamePart, ModelPart, PendingPart, PairsPart, CounterHalf, tag, allParts, same, has, distinct, sizeOf, placeOf, lay}
-use Rattle.record.specs.Laid.{each}
+use Rattle.record.specs.Layout.{Part, SizeBytes, VersionByte, FlagByte, TriesByte, CodeWord, PowerHalf, StepByte, ModeByte, OnOffByte, InputBytes, OutputByte, IntervalByte, FilterWord, NamePart, ModelPart, PendingPart, PairsPart, CounterHalf, tag, allParts, same, has, distinct, sizeOf, placeOf, lay, each}
 use Rattle.record.proofs.Parts.{part-drop, sets-behind, sets-within}
 
 -- ---- parts of lists

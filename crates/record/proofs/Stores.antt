@@ -13,10 +13,10 @@ use Rattle.wire.specs.Numbers.{bytes2, bytes4, bytesAt}
 use Rattle.wire.proofs.NumberLaws.{length-part, part-all}
 use Rattle.peak.specs.Pairs.{Pair, noPair, pairBytes}
 use Rattle.record.specs.Record.{Flags, Record, withOutput, withPower, withStep, withMode, withOnOff, withInputs, withInterval, withFilter, withName, withFlags, withTries, withCode, withSettings, withOutputs, withModel, withPending, withPairs, withCounter}
-use Rattle.record.specs.Layout.{Part, FlagByte, TriesByte, CodeWord, PowerHalf, StepByte, ModeByte, OnOffByte, InputBytes, OutputByte, IntervalByte, FilterWord, NamePart, ModelPart, PendingPart, PairsPart, CounterHalf, allParts, has, Plan, nameRoom, width, place, flagsByte, outputsByte, partBytes, bytesIn}
+use Rattle.record.specs.Layout.{Part, FlagByte, TriesByte, CodeWord, PowerHalf, StepByte, ModeByte, OnOffByte, InputBytes, OutputByte, IntervalByte, FilterWord, NamePart, ModelPart, PendingPart, PairsPart, CounterHalf, allParts, has, each, Plan, nameRoom, width, place, flagsByte, outputsByte, partBytes, bytesIn}
 use Rattle.record.proofs.Choices.{masked, switch}
 use Rattle.record.proofs.Parts.{part-at, sets-cons, pairs-part, pairs-set}
-use Rattle.record.specs.Laid.{each, Laid, coreParts}
+use Rattle.record.specs.Laid.{Laid, coreParts}
 use Rattle.record.proofs.Layouts.{all-same, upd, lay-same, lay-store}
 use Rattle.record.proofs.Pieces.{chunk-long}
 use Rattle.record.proofs.RoundTrip.{get-part}

@@ -35,10 +35,11 @@ factory = record {
   counter = 0;
 }
 
--- "Power-on closes configuration mode, locks, sets tries and outputs to 0 and sending on, and drops pending bytes, pairs and the reading flag, all to zero; the rest stays."
+-- "Power-on closes configuration mode, locks, sets tries and outputs to 0 and sending on, and drops pending bytes, pairs and the reading flag, all to zero; the rest stays."; a counter, in a layout that has one, goes to 0 too
 unfoldable pub poweredOnIn : Plan → Record → Record
 poweredOnIn p r = record { flags = freshFlags; tries = 0; code = r .code; settings = r .settings; outputs = allOff; model = r .model; pending = []; pairs = noPairs p; counter = 0 }
 
+-- the same for the board's layout
 unfoldable pub poweredOn : Record → Record
 unfolding poweredOnIn
 poweredOn r = poweredOnIn current r

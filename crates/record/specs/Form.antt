@@ -41,7 +41,7 @@ abbrev pub flagsFit : Bool → ℕ → Bool
 flagsFit true b = ltb b 16
 flagsFit false b = ltb b 16 && eqb (b % 2) 0
 
--- "It is well formed when each field is in its range": the tests of each part, in the words of the record's description; `Limits` has the ranges of the settings
+-- "It is well formed when each field is in its range": the tests of each part, in the words of the record's description; `Limits` has the ranges of the settings; the places serve `Fault` alone
 abbrev pub testsOf : Plan → Bool → ℕ → List ℕ → Part → List Field
 -- "length 00 7B; version 01"
 testsOf p reading at c SizeBytes = field at (eqb (halfAt c 0) (planSize p)) ∷ []
@@ -94,6 +94,7 @@ unfoldable pub wellIn : Plan → List ℕ → Bool
 unfolding nameRange allZero zerosBehind waits serial look key
 wellIn p s = eqb (length s) (planSize p) && allFine (fieldsIn p s)
 
+-- the same for the board's layout
 unfoldable pub wellFormed : List ℕ → Bool
 unfolding wellIn
 wellFormed s = wellIn current s

@@ -69,6 +69,10 @@ abbrev pub distinct : List Part → Bool
 distinct [] = true
 distinct (x ∷ ps) = not (has ps x) && distinct ps
 
+abbrev pub each : {A : Type 0} → (Part → A) → List Part → List A
+each f [] = []
+each f (x ∷ ps) = f x ∷ each f ps
+
 -- ---- a layout
 
 -- its version byte; the room for pending bytes and the heads that they go by; its channels; the filter words are below `filters`; whether there is a configuration mode to open; its parts in record order
@@ -265,21 +269,27 @@ bitOf b unit = eqb (b / unit % 2) 1
 -- ---- the bytes of a record, part by part; what is shorter than its room has zeros behind it
 
 abbrev pub partBytes : Plan → Record → Part → List ℕ
+-- "length 00 7B; version 01"
 partBytes p r SizeBytes = bytes2 (planSize p)
 partBytes p r VersionByte = p .version ∷ []
+-- "flags (bit 0 open, 1 unlocked, 2 sending, 3 reading seen, others 0); tries 0..3; code 4"
 partBytes p r FlagByte = flagsByte (r .flags) ∷ []
 partBytes p r TriesByte = r .tries ∷ []
 partBytes p r CodeWord = bytes4 (r .code)
+-- "Classic power 2; LE step; mode; on/off; input types 5 (channels 2 to 6)"
 partBytes p r PowerHalf = bytes2 (r .settings .power)
 partBytes p r StepByte = r .settings .step ∷ []
 partBytes p r ModeByte = r .settings .mode ∷ []
 partBytes p r OnOffByte = r .settings .onOff ∷ []
 partBytes p r InputBytes = bytesAt 5 (r .settings .inputs) 0
+-- "outputs (output k in bit k - 1, bits 4 to 7 zero); interval; filter word 4"
 partBytes p r OutputByte = outputsByte (r .outputs) ∷ []
 partBytes p r IntervalByte = r .settings .interval ∷ []
 partBytes p r FilterWord = bytes4 (r .settings .filter)
+-- "name length and 15 bytes, each at most 7F, zero behind the name; model 15, all zero from its first zero"
 partBytes p r NamePart = length (r .settings .name) ∷ bytesAt nameRoom (r .settings .name) 0
 partBytes p r ModelPart = bytesAt modelRoom (r .model) 0
+-- "pending length and 18 bytes; six pairs greatest, smallest, from channel 1 on"
 partBytes p r PendingPart = length (r .pending) ∷ bytesAt (p .room) (r .pending) 0
 partBytes p r PairsPart = pairsBytes (p .channels) (r .pairs) 0
 partBytes p r CounterHalf = bytes2 (r .counter)

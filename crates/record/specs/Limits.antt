@@ -34,10 +34,11 @@ inputRange b = within (pos 0) (pos 1) (signed8 b)
 abbrev pub intervalOf : ℤ → Range
 intervalOf v = cond (ltZ (pos 59) v) Big (cond (ltZ v (pos 0) || (ltZ (pos 0) v && ltZ v (pos 4))) Small Fits)
 
+-- interval in the record and in F2: "One-byte parameters are signed."
 abbrev pub intervalRange : ℕ → Range
 intervalRange b = intervalOf (signed8 b)
 
--- filter word: "any bit above bit 5 is 54"; the bound is the layout's
+-- filter word: "any bit above bit 5 is 54"; the bound is `filters` of the layout, 64 in `plan1`
 abbrev pub filterRange : ℕ → ℕ → Range
 filterRange bound w = cond (ltb w bound) Fits Big
 
@@ -45,6 +46,7 @@ filterRange bound w = cond (ltb w bound) Fits Big
 abbrev pub nameByte : ℕ → Range
 nameByte b = cond (leb b 0x7F) Fits Big
 
+-- "a byte above 7F is 54", "parameters from the left": the whole name
 unfoldable pub nameRange : List ℕ → Range
 nameRange [] = Fits
 nameRange (b ∷ name) = also (nameByte b) (nameRange name)

@@ -97,13 +97,14 @@ cutFrom h (suc k) (x ∷ l) = cutFrom h k l
 abbrev pub cut : Heads → List ℕ → Cut
 cut h l = cutFrom h 0 l
 
--- what the hunt can leave waiting: nothing, or a front that waits
+-- the front waits
 abbrev pub isWait : Look → Bool
 isWait Skip = false
 isWait Wait = true
 isWait (Take n) = false
 isWait Tear = false
 
+-- "such as the hunt can leave waiting": nothing, or a front that waits
 unfoldable pub waits : Heads → List ℕ → Bool
 unfolding look
 waits h l = eqb (length l) 0 || isWait (look h l)
