@@ -1,6 +1,6 @@
 -- Bytes that are those of a record in range.
 use Prim.Native.Nat.{ℕ, suc, _+_, _≤_, _<_}
-use mathlib.Core.Path.{_≡_, refl, ap, subst, _∙_}
+use mathlib.Core.Path.{_≡_, refl, sym, ap, subst, _∙_}
 use mathlib.Core.Bool.{true}
 use mathlib.Core.List.{List}
 use lib.ListN.{length}
@@ -8,7 +8,7 @@ use Rattle.record.specs.Record.{Record}
 use Rattle.record.specs.Layout.{Part, PendingPart, has, Plan, width, place, current, recordSize, pendingRoom, atPendingLength, bytesIn, bytesOf, recordOf}
 use Rattle.record.specs.Laid.{Laid}
 use Rattle.record.specs.Form.{InRangeIn, InRange}
-use Rattle.record.specs.InPlace.{Holds, Sound, Turns, Shows, Has, SoundAt, SoundPending, TurnsAt, TurnsPending, ShowsAt}
+use Rattle.record.specs.InPlace.{Holds, Sound, Turns, Shows, TurnsIn, ShowsIn, Has, SoundBy, SoundAt, SoundPending, TurnsAt, TurnsPending, ShowsAt}
 use Rattle.record.proofs.Plans.{laid}
 use Rattle.record.proofs.RoundTrip.{longIn, read-back}
 use Rattle.record.proofs.Layouts.{place-in}
@@ -73,3 +73,19 @@ sound-pending s h = record { plan = current; board = recordOf s; taken = (has-he
 pub here-pending : (at room : ℕ) (s t : List ℕ) (f : Record → Record) → place current PendingPart ≡ at → current .room ≡ room → TurnsPending at room s t f → Turns s t f
 unfolding bytesOf
 here-pending at room s t f stands e g = g current (has-here PendingPart at refl stands, e)
+
+-- ---- what is asked leaves what is promised one answer
+
+module _ (such : Plan → Type 0) (s : List ℕ) (h : SoundBy such s) where
+  pub turned-once : (t u : List ℕ) (f : Record → Record) → ((p : Plan) → such p → TurnsIn p s t f) → ((p : Plan) → such p → TurnsIn p s u f) → t ≡ u
+  turned-once t u f a b = a (h .plan) (h .taken) (h .board) (h .fit) (h .same) ∙ sym (b (h .plan) (h .taken) (h .board) (h .fit) (h .same))
+
+  pub shown-once : {A : Type 0} (v w : A) (f : Record → A) → ((p : Plan) → such p → ShowsIn p s v f) → ((p : Plan) → such p → ShowsIn p s w f) → v ≡ w
+  shown-once v w f a b = a (h .plan) (h .taken) (h .board) (h .fit) (h .same) ∙ sym (b (h .plan) (h .taken) (h .board) (h .fit) (h .same))
+
+module _ (s : List ℕ) (h : Sound s) where
+  pub turns-once : (t u : List ℕ) (f : Record → Record) → Turns s t f → Turns s u f → t ≡ u
+  turns-once t u f a b = a (recordOf s) (h .fit) (h .same) ∙ sym (b (recordOf s) (h .fit) (h .same))
+
+  pub shows-once : {A : Type 0} (v w : A) (f : Record → A) → Shows s v f → Shows s w f → v ≡ w
+  shows-once v w f a b = a (recordOf s) (h .fit) (h .same) ∙ sym (b (recordOf s) (h .fit) (h .same))
