@@ -3,12 +3,12 @@ use Prim.Native.Nat.{ℕ, _+_, _-_}
 use mathlib.Core.Path.{_≡_, refl, sym, ap, _∙_}
 use mathlib.Core.Logic.{_≢_}
 use mathlib.Core.Bool.{Bool, true, false}
-use mathlib.Core.List.{List, _∷_}
+use mathlib.Core.List.{List, [], _∷_}
 use native.Mathlib.Omega.{arith}
 use lib.ListN.{length, getD, List·getD-eq-default}
 use lib.Dec.{ltb, eqb}
 use borrow.Author.Tests.{lt-ltb, le-leb, lt-leb, eq-eqb, ne-eqb, eqb-true, ltb-true, ltb-false}
-use Rattle.wire.specs.Frames.{Whole, Broken}
+use Rattle.wire.specs.Frames.{Whole, Broken, stop, cutFrom, cut}
 use Rattle.wire.specs.Serial.{serial, headOf, numberOf, paramsOf}
 use Rattle.wire.specs.Replies.{Reply, kindOf, replyBytes, written}
 use Rattle.wire.specs.Run.{runs, hunt}
@@ -108,6 +108,11 @@ before-reading r f range none legal = each-frame r f .effect ReadPair legal ∙ 
 
 -- ---- the hunt
 
+over : (l : List ℕ) → length l ≡ 0 → cut serial l ≡ stop []
+unfolding cutFrom
+over [] e = refl
+over (x ∷ l) e = absurd (omega arith)
+
 module _ (l : List ℕ) where
   hunted : SixLines l
   hunted = record {
@@ -121,6 +126,7 @@ module _ (l : List ℕ) where
     broken = λ h n e.
         cut-tear serial l
         (look-lines l ∙ rw (eq-eqb (getD l 0 0) 0xAA (h .0), lt-ltb 1 (length l) (h .1), h .2, le-leb (4 + announced l) (length l) n, ne-eqb (getD l (3 + announced l) 0) 0x85 e) refl);
+    over = over l;
   }
 
 -- ---- its pieces
@@ -135,4 +141,11 @@ in-turn = record {
 }
 
 pub answers-as-listed : AnswersAsListed
-answers-as-listed = record { each-frame = each-frame; before-reading = before-reading; hunted = hunted; in-turn = in-turn; others = record { new-record = factory-done; switched-on = power-on-done; reading = samples-done } }
+answers-as-listed = record {
+  each-frame = each-frame;
+  before-reading = before-reading;
+  looked = look-lines;
+  hunted = hunted;
+  in-turn = in-turn;
+  others = record { new-record = factory-done; switched-on = power-on-done; reading = samples-done };
+}

@@ -1,5 +1,5 @@
 -- What the bytes call does that each of the wrong boards does not, and such boards.
-use Prim.Native.Nat.{ℕ}
+use Prim.Native.Nat.{ℕ, _+_}
 use mathlib.Core.Path.{_≡_, refl, sym, ap, subst, fun-ext, _∙_}
 use mathlib.Core.List.{List, [], _∷_, _++_}
 use native.Mathlib.Omega.{arith}
@@ -12,8 +12,7 @@ use Rattle.wire.proofs.SerialLaws.{serial-steady}
 use Rattle.record.specs.Record.{Settings}
 use Rattle.record.specs.Layout.{atFlags, bytesOf, recordOf}
 use Rattle.record.specs.Births.{factory}
-use Rattle.call.specs.declared.Ending.the-variants.{Done, BadRecord}
-use Rattle.call.specs.Outcome.{Outcome, refused}
+use Rattle.call.specs.Outcome.{Outcome}
 use Rattle.call.proofs.InOrder.{allowed-is}
 use Rattle.board.specs.Calls.{bytesCall}
 use Rattle.demands.specs.CallList.{BytesIn}
@@ -82,19 +81,45 @@ first-of f g e = rw (packets serial serial-steady f g, e) refl
 abbrev replies-on : Board
 replies-on s f o = record { answer = bytesCall s f o .answer; kept = bytesCall s (first (cut serial f .pieces)) o .kept; output = bytesCall s f o .output }
 
-says : Board
-says s f o = record { answer = record { result = 0; written = 4; skipped = 0 }; kept = s; output = put o 0 (0xAA ∷ 0x50 ∷ 0x00 ∷ 0x85 ∷ []) }
+-- it replies to every frame and carries out none
+abbrev idles : Board
+idles s f o = record { answer = bytesCall s f o .answer; kept = s; output = bytesCall s f o .output }
 
-always-says : SaysDone says
-unfolding says put
+-- it says the same to every input, and leaves the record as it was
+abbrev says : List ℕ → Board
+says reply s f o = record { answer = record { result = bytesCall s f o .answer .result; written = length reply; skipped = bytesCall s f o .answer .skipped }; kept = s; output = put o 0 reply }
+
+abbrev says-unknown : Board
+says-unknown = says (0xAA ∷ 0x50 ∷ 0x40 ∷ 0x85 ∷ [])
+
+abbrev says-done : Board
+says-done = says (0xAA ∷ 0x50 ∷ 0x00 ∷ 0x85 ∷ [])
+
+-- it counts a skipped byte too many
+abbrev counts : Board
+counts s f o = let z = bytesCall s f o in record { answer = record { result = z .answer .result; written = z .answer .written; skipped = z .answer .skipped + 1 }; kept = z .kept; output = z .output }
+
+refuses-all : RefusesAll says-unknown
+unfolding put
+refuses-all s f o e n d z = omega arith
+
+always-says : SaysDone says-done
+unfolding put
 always-says s f o e n d = refl
 
+starts : FirstOnly replies-on
+starts s f g o a b n p q = ap (λ (l : List ℕ). bytesCall s l o .kept) (first-of f g a ∙ sym (ap (λ (c : Cut). first (c .pieces)) a))
+
+invents : InventsCount counts
+unfolding bytesCall factory bytesOf recordOf cutFrom
+invents = (bytesOf factory, [], [], refl, λ e. let z : _≡_ {A = ℕ} 1 0 = e in omega arith)
+
+-- each returns the result of the bytes call, so it works
 pub kinds-exist : KindsExist
-unfolding recordOf cutFrom
 kinds-exist = record {
-  refuser = (λ s f o. refused BadRecord s o, λ s f o e n d. absurd (omega arith));
-  sayer = (says, always-says);
-  idler = (λ s f o. refused Done s o, λ s f o. refl);
-  starter = (replies-on, λ s f g o a b n p q. ap (λ (l : List ℕ). bytesCall s l o .kept) (first-of f g a ∙ sym (ap (λ (c : Cut). first (c .pieces)) a)));
-  inventor = (λ s f o. record { answer = record { result = 0; written = 0; skipped = 1 }; kept = s; output = o }, ([], [], [], refl, λ e. let z : _≡_ {A = ℕ} 1 0 = e in omega arith));
+  refuser = (says-unknown, (λ s f o e. e), refuses-all);
+  sayer = (says-done, (λ s f o e. e), always-says);
+  idler = (idles, (λ s f o e. e), λ s f o. refl);
+  starter = (replies-on, (λ s f o e. e), starts);
+  inventor = (counts, (λ s f o e. e), invents);
 }

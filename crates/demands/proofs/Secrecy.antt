@@ -3,7 +3,7 @@ use Prim.Native.Nat.{ℕ, zero, suc, _≤_}
 use mathlib.Core.Path.{_≡_, refl, ap}
 use mathlib.Core.List.{List, [], _∷_}
 use native.Mathlib.Omega.{arith}
-use lib.ListN.{getD}
+use lib.ListN.{getD, replicate}
 use Rattle.wire.specs.Numbers.{Bytes}
 use Rattle.wire.specs.Frames.{cutFrom}
 use Rattle.wire.specs.Serial.{serial}
@@ -12,7 +12,7 @@ use Rattle.record.specs.Layout.{atTries, atCode, bytesOf, recordOf}
 use Rattle.record.specs.Births.{factory}
 use Rattle.command.specs.Compare.{compares}
 use Rattle.command.proofs.Compare.{compares-exactly}
-use Rattle.board.specs.Calls.{bytesCall}
+use Rattle.board.specs.Calls.{bytesCall, samplesCall}
 use Rattle.demands.specs.Premise.{ComparedExactly}
 use Rattle.demands.specs.CallList.{Made, callOf, outcomeOf}
 use Rattle.demands.specs.Secrecy.{thirdCode, AllQuiet, OneCall, NothingTold, NoReset, NothingToldUsedUp, PremiseMet, PremiseNeeded}
@@ -60,14 +60,20 @@ third-bytes (suc (suc (suc (suc (suc (suc zero)))))) = omega arith
 third-bytes (suc (suc (suc (suc (suc (suc (suc zero))))))) = omega arith
 third-bytes (suc (suc (suc (suc (suc (suc (suc (suc i)))))))) = omega arith
 
+zeros-bytes : (n : ℕ) → Bytes (replicate n 0x00)
+zeros-bytes zero i = omega arith
+zeros-bytes (suc n) zero = omega arith
+zeros-bytes (suc n) (suc i) = zeros-bytes n i
+
 pub premise-met : PremiseMet
-unfolding bytesCall bytesOf recordOf factory withCode cutFrom serial compares
+unfolding bytesCall samplesCall bytesOf recordOf factory withCode cutFrom serial compares
 premise-met = record {
   pair = code-only factory 0x01020304;
   differ = λ e. let z : _≡_ {A = ℕ} 0x55 0x01 = ap (λ (s : List ℕ). getD s atCode 0) e in omega arith;
   done = refl;
+  read = refl;
   compared = refl;
-  of-bytes = (third-bytes, ((λ i. omega arith), tt));
+  of-bytes = (third-bytes, (zeros-bytes 24, tt));
   quiet = (λ e. ((λ c. ((λ z. omega arith), λ z. omega arith)), tt), (tt, tt));
   no-reset = (refl, (refl, tt));
 }

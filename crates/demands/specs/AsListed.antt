@@ -5,8 +5,9 @@ use mathlib.Core.Logic.{_↔_, _≢_}
 use mathlib.Core.Bool.{true, false}
 use mathlib.Core.List.{List, [], _∷_, _++_}
 use lib.ListN.{length, getD, take, drop, replicate}
-use Rattle.wire.specs.Frames.{Piece, Whole, Broken, stop, skipOne, takeOne, tearOne, cut}
-use Rattle.wire.specs.Serial.{isHead, serial, headOf, numberOf, paramsOf}
+use lib.Dec.{ltb, leb, eqb}
+use Rattle.wire.specs.Frames.{Piece, Whole, Broken, look, stop, skipOne, takeOne, tearOne, cut}
+use Rattle.wire.specs.Serial.{isHead, serial, sixLines, headOf, numberOf, paramsOf}
 use Rattle.wire.specs.Replies.{Reply, kindOf, written}
 use Rattle.wire.specs.Run.{runs}
 use Rattle.wire.specs.declared.Range.{Range}
@@ -57,7 +58,7 @@ module _ (r : Record) (f : List ℕ) where
   Gives after status body = stepOf r f ≡ record { after = after; reply = record { kind = kindOf (headOf f); status = status; body = body } }
 
   pub record AsListed : Type 0 where
-    -- A command takes effect exactly when number, parameter count, access and parameters are legal,
+    -- A command is answered 00 exactly when number, parameter count, access and parameters are legal,
     pub exactly : (stepOf r f .reply .status ≡ 0x00) ↔ ((c : Command) × Legal c)
     -- and then the effect and the reply are the listed ones.
     pub effect : (c : Command) → Legal c → Gives (effectOf c r (paramsOf f)) 0x00 (dataOf c r (paramsOf f))
@@ -99,6 +100,8 @@ module _ (l : List ℕ) where
     pub frame : Headed → 4 + announced ≤ length l → getD l (3 + announced) 0 ≡ 0x85 → cut serial l ≡ takeOne (take (4 + announced) l) (cut serial (drop (4 + announced) l))
     -- "All present and the last isn't 85: the AA is skipped without a reply, and the hunt goes on at the byte after that AA."
     pub broken : Headed → 4 + announced ≤ length l → getD l (3 + announced) 0 ≢ 0x85 → cut serial l ≡ tearOne (getD l 1 0) (cut serial (drop 1 l))
+    -- Behind the last byte nothing is skipped and nothing waits.
+    pub over : length l ≡ 0 → cut serial l ≡ stop []
 
 -- ---- its pieces, one after the other
 
@@ -133,6 +136,9 @@ pub record OtherCalls : Type 0 where
 pub record AnswersAsListed : Type 0 where
   pub each-frame : (r : Record) (f : List ℕ) → AsListed r f
   pub before-reading : BeforeReading
+  -- What the hunt does at the front of a stream is the six lines: is the first byte AA, is there a second, is it a head, are 4 + n bytes present, is the last of them 85.
+  pub looked : (l : List ℕ)
+      → look serial l ≡ sixLines (eqb (getD l 0 0) 0xAA) (ltb 1 (length l)) (isHead (getD l 1 0)) (leb (4 + announced l) (length l)) (eqb (getD l (3 + announced l) 0) 0x85) (announced l)
   pub hunted : (l : List ℕ) → SixLines l
   pub in-turn : InTurn
   pub others : OtherCalls

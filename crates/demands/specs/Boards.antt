@@ -24,7 +24,11 @@ module _ (b : Board) where
   abbrev pub Meets : Type 0
   Meets = (s input o : List ℕ) → Allows (bytesCall s input o) (b s input o)
 
-  -- a frame on a record without pending bytes gets no number 0, or no status 00
+  -- it refuses no call that the contract lets through
+  abbrev pub Works : Type 0
+  Works = (s input o : List ℕ) → bytesCall s input o .answer .result ≡ 0 → b s input o .answer .result ≡ 0
+
+  -- a call that is done and holds one frame, on a record without pending bytes, gets a status other than 00
   abbrev pub RefusesAll : Type 0
   RefusesAll = (s f o : List ℕ) → OneFrame f → recordOf s .pending ≡ [] → b s f o .answer .result ≡ 0 → getD (b s f o .output) 2 0 ≢ 0x00
 
@@ -33,7 +37,7 @@ module _ (b : Board) where
   SaysDone = (s f o : List ℕ) → OneFrame f → recordOf s .pending ≡ [] → b s f o .answer .result ≡ 0
       → take (b s f o .answer .written) (b s f o .output) ≡ 0xAA ∷ 0x50 ∷ 0x00 ∷ 0x85 ∷ []
 
-  -- it leaves every setting as it was
+  -- it leaves every setting as it was (so does a board that does nothing at all)
   abbrev pub DoesNothing : Type 0
   DoesNothing = (s input o : List ℕ) → recordOf (b s input o .kept) .settings ≡ recordOf s .settings
 
@@ -56,10 +60,10 @@ module _ (b : Board) where
 abbrev pub WrongShutOut : Type 0
 WrongShutOut = (b : Board) → Meets b → ShutOut b
 
--- Each of the five kinds has a board.
+-- Each of the five kinds has a board, and one that refuses no call which the contract lets through.
 pub record KindsExist : Type 0 where
-  pub refuser : (b : Board) × RefusesAll b
-  pub sayer : (b : Board) × SaysDone b
-  pub idler : (b : Board) × DoesNothing b
-  pub starter : (b : Board) × FirstOnly b
-  pub inventor : (b : Board) × InventsCount b
+  pub refuser : (b : Board) × Works b × RefusesAll b
+  pub sayer : (b : Board) × Works b × SaysDone b
+  pub idler : (b : Board) × Works b × DoesNothing b
+  pub starter : (b : Board) × Works b × FirstOnly b
+  pub inventor : (b : Board) × Works b × InventsCount b

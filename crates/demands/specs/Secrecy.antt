@@ -10,7 +10,7 @@ use Rattle.record.specs.Record.{withCode}
 use Rattle.record.specs.Layout.{atTries, bytesOf, recordOf}
 use Rattle.record.specs.Births.{factory}
 use Rattle.command.specs.Compare.{compares}
-use Rattle.board.specs.Calls.{bytesCall}
+use Rattle.board.specs.Calls.{bytesCall, samplesCall}
 use Rattle.demands.specs.Premise.{SameButCode, Alike}
 use Rattle.demands.specs.CallList.{BytesIn, SamplesIn, callOf, Made, outcomeOf}
 use Rattle.demands.specs.Examples.{rightCode}
@@ -66,15 +66,23 @@ thirdCode = 0xAA ∷ 0x94 ∷ 0x19 ∷ 0x11 ∷ 0x22 ∷ 0x33 ∷ 0x44 ∷ 0x85 
 abbrev pub room : List ℕ
 room = replicate 38 0x00
 
--- the command sent, and a reading
-abbrev pub harmless : List Made
-harmless = record { name = BytesIn; lent = record { input = thirdCode; output = room } } ∷ record { name = SamplesIn; lent = record { input = []; output = [] } } ∷ []
+-- a reading of six zeros, and room for its measuring frame
+abbrev pub sixZeros : List ℕ
+sixZeros = replicate 24 0x00
 
--- The boards have different codes, the command is compared, the premise holds, and neither of the two calls gives new tries.
+abbrev pub frameRoom : List ℕ
+frameRoom = replicate 28 0x00
+
+-- the command sent, then the reading
+abbrev pub harmless : List Made
+harmless = record { name = BytesIn; lent = record { input = thirdCode; output = room } } ∷ record { name = SamplesIn; lent = record { input = sixZeros; output = frameRoom } } ∷ []
+
+-- The boards have different codes, both calls are done, the command is compared, the premise holds, and neither of the two calls gives new tries.
 pub record PremiseMet : Type 0 where
   pub pair : SameButCode ours theirs
   pub differ : ours ≢ theirs
   pub done : bytesCall ours thirdCode room .answer .result ≡ 0
+  pub read : samplesCall (bytesCall ours thirdCode room .kept) sixZeros frameRoom .answer .result ≡ 0
   pub compared : compares (recordOf ours) thirdCode ≡ true
   pub of-bytes : AllOfBytes harmless
   pub quiet : AllQuiet ours theirs harmless
