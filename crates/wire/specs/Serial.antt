@@ -53,7 +53,7 @@ abbrev pub Noise : List ℕ → ℕ → ℕ → Type 0
 Noise l from at = Stretch l (λ i. getD l i 0 ≢ 0xAA) from at
 
 -- The six lines of the hunt, as the page has them: is the first byte AA, is there a second, is it a head, are 4 + n bytes
--- present, is the last of them 85. That `look serial` is these lines is `look-lines` of wire/proofs/SerialLaws.
+-- present, is the last of them 85. That `look serial` is these lines is `looked` of demands/specs/AsListed.
 abbrev pub sixLines : Bool → Bool → Bool → Bool → Bool → ℕ → Look
 -- "A byte other than AA is skipped."
 sixLines false second headed present ended n = Skip
