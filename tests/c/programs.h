@@ -36,7 +36,7 @@ extern const struct program programs[PROGRAMS];
 /* Defines run_NAME over the calls NAME_factory, NAME_power_on, NAME_bytes and NAME_samples. */
 #define DEFINE_RUN(program)                                                                                  \
     static struct board_answer run_##program(const struct request *r) {                                      \
-        struct program##_answer a;                                                                           \
+        struct program##_answer a = {99, 99, 99};                                                            \
         switch (r->call) {                                                                                   \
         case CALL_FACTORY:                                                                                   \
             a = program##_factory(r->record, r->record_len);                                                 \
@@ -47,9 +47,11 @@ extern const struct program programs[PROGRAMS];
         case CALL_BYTES:                                                                                     \
             a = program##_bytes(r->record, r->record_len, r->input, r->input_len, r->output, r->output_len); \
             break;                                                                                           \
-        default:                                                                                             \
+        case CALL_SAMPLES:                                                                                   \
             a = program##_samples(r->record, r->record_len, r->input, r->input_len, r->output,               \
                                   r->output_len);                                                            \
+            break;                                                                                           \
+        case CALLS:                                                                                          \
             break;                                                                                           \
         }                                                                                                    \
         return (struct board_answer){a.result, a.written, a.skipped};                                        \

@@ -1,7 +1,7 @@
 -- What the bytes call brings for the demands.
 use Prim.Native.Nat.{ℕ, _+_, _≤_}
-use mathlib.Core.Path.{_≡_, refl, ap, _∙_}
-use mathlib.Core.Bool.{true}
+use mathlib.Core.Path.{_≡_, refl, sym, ap, _∙_}
+use mathlib.Core.Bool.{true, true≢false}
 use mathlib.Core.List.{List, _++_}
 use native.Mathlib.Omega.{arith}
 use lib.ListN.{length}
@@ -98,8 +98,9 @@ bytes-laws = record {
       omega (arith, room-enough (recordOf s) (l .input) g (in-range s b (formed s (n .0))), ltb-false (length (l .output)) (roomFor (length (recordOf s .pending) + length (l .input))) (n .1 .1 .0));
   same = λ l s t bs bt same. bytes-same s t (l .input) (l .output) bs bt same;
   alike = λ l s t bs bt same n h. bytes-alike s t (l .input) (l .output) bs bt same n h;
-  quiet = λ e l s t h z. quiet-used (recordOf s) (recordOf t) (cut serial (recordOf s .pending ++ l .input) .pieces) h;
+  quiet = λ l s t h z. quiet-used (recordOf s) (recordOf t) (cut serial (recordOf s .pending ++ l .input) .pieces) h;
   tries = λ e l s h. hunt-tries (recordOf s) (l .input) h;
+  gives = λ e. absurd (true≢false (sym e));
 }
 
 pub bytes-done : (s input o : List ℕ) → NoReason (bytesReasons s input o) → bytesCall s input o ≡ afterBytes (huntOf (recordOf s) input) o

@@ -19,6 +19,10 @@ use Rattle.demands.proofs.Tests.{other}
 use Rattle.demands.proofs.OtherCode.{same-own}
 use Rattle.demands.proofs.Laws.{Laws, left-by}
 
+no-tries : births.factory .tries ≡ 0
+unfolding births.factory
+no-tries = refl
+
 pub factory-laws : Laws factoryEntry
 factory-laws = record {
   causes = λ l s. factoryCauses s;
@@ -32,8 +36,9 @@ factory-laws = record {
   room = λ l s b g n. omega arith;
   same = λ l s t bs bt same. (ap (λ (n : ℕ). cause (not (eqb n recordSize)) BadRecord) (same .long), λ h. tt);
   alike = λ l s t bs bt same n h. (refl, refl, same-own (bytesOf births.factory));
-  quiet = λ e. absurd (true≢false e);
+  quiet = λ l s t h. tt;
   tries = λ e. absurd (true≢false e);
+  gives = λ e l s. no-tries;
 }
 
 pub factory-done : (s : List ℕ) → length s ≡ recordSize → factoryCall s ≡ done births.factory [] 0 []

@@ -1,7 +1,7 @@
 -- What a call has to bring so that the demands hold for it, and the demands from that.
 use Prim.Native.Nat.{ℕ, _≤_}
 use mathlib.Core.Path.{_≡_, refl, sym, _∙_}
-use mathlib.Core.Bool.{false}
+use mathlib.Core.Bool.{true, false}
 use mathlib.Core.List.{List}
 use native.Mathlib.Omega.{arith}
 use lib.ListN.{length, getD}
@@ -39,9 +39,10 @@ pub record Laws (c : Call) : Type 1 where
   pub same : (l : c .Lent) (s t : List ℕ) → Bytes s → Bytes t → SameButCode s t → SameCauses (causes l s) (causes l t)
   pub alike : (l : c .Lent) (s t : List ℕ) → Bytes s → Bytes t → SameButCode s t → None (causes l s) → c .Quiet l s t
       → Alike (done (after l s) (out l s) (skips l s) (c .output l)) (done (after l t) (out l t) (skips l t) (c .output l))
-  -- with three wrong tries used nothing is compared, and they stay used
-  pub quiet : c .resets ≡ false → (l : c .Lent) (s t : List ℕ) → 3 ≤ recordOf s .tries → c .Quiet l s t
+  -- with three wrong tries used nothing is compared, and they stay used, but for a call that gives new ones
+  pub quiet : (l : c .Lent) (s t : List ℕ) → 3 ≤ recordOf s .tries → c .Quiet l s t
   pub tries : c .resets ≡ false → (l : c .Lent) (s : List ℕ) → 3 ≤ recordOf s .tries → 3 ≤ after l s .tries
+  pub gives : c .resets ≡ true → (l : c .Lent) (s : List ℕ) → after l s .tries ≡ 0
 
 -- the tries of a record, in its bytes
 tries-at : (s : List ℕ) → recordOf s .tries ≡ getD s atTries 0
@@ -89,7 +90,7 @@ module _ (c : Call) (w : Laws c) (l : c .Lent) (s : List ℕ) where
     three = rw (tries-at s) used
 
     pub quiet-by : (t : List ℕ) → c .Quiet l s t
-    quiet-by t = w .quiet keeps-tries l s t three
+    quiet-by t = w .quiet l s t three
 
     pub used-by : 3 ≤ getD (c .outcome l s .kept) atTries 0
     used-by =

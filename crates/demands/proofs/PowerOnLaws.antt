@@ -1,6 +1,6 @@
 -- What the power-on call brings for the demands.
 use Prim.Native.Nat.{ℕ}
-use mathlib.Core.Path.{_≡_}
+use mathlib.Core.Path.{_≡_, refl}
 use mathlib.Core.Bool.{true≢false}
 use mathlib.Core.List.{List, []}
 use native.Mathlib.Omega.{arith}
@@ -22,6 +22,10 @@ on-alike : (r : Record) (k : ℕ) → Alike (done (poweredOn r) [] 0 []) (done (
 unfolding poweredOn withCode
 on-alike r k = done-alike (poweredOn r) k [] 0 []
 
+new-tries : (r : Record) → poweredOn r .tries ≡ 0
+unfolding poweredOn
+new-tries r = refl
+
 pub power-on-laws : Laws powerOnEntry
 power-on-laws = record {
   causes = λ l s. powerOnCauses s;
@@ -35,8 +39,9 @@ power-on-laws = record {
   room = λ l s b g n. omega arith;
   same = λ l s t bs bt same. (same-form s t bs bt same, λ h. tt);
   alike = λ l s t bs bt same n h. rw (other-record s t bs bt same (formed s (n .0))) (on-alike (recordOf s) (code-of s t bs bt same (formed s (n .0))));
-  quiet = λ e. absurd (true≢false e);
+  quiet = λ l s t h. tt;
   tries = λ e. absurd (true≢false e);
+  gives = λ e l s. new-tries (recordOf s);
 }
 
 pub power-on-done : (s : List ℕ) → ¬ Malformed s → powerOnCall s ≡ done (poweredOn (recordOf s)) [] 0 []

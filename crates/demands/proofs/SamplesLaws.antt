@@ -1,7 +1,7 @@
 -- What the samples call brings for the demands.
 use Prim.Native.Nat.{ℕ, _≤_}
-use mathlib.Core.Path.{_≡_, refl}
-use mathlib.Core.Bool.{Bool, true, false, cond}
+use mathlib.Core.Path.{_≡_, refl, sym}
+use mathlib.Core.Bool.{Bool, true, false, cond, true≢false}
 use mathlib.Core.List.{List, []}
 use native.Mathlib.Omega.{arith}
 use lib.ListN.{length}
@@ -54,8 +54,9 @@ samples-laws = record {
   room = λ l s b g n. short (recordOf s .flags .sending) (l .input) (l .output) (ltb-false (length (l .output)) frameSize (n .1 .1 .0));
   same = λ l s t bs bt same. (same-form s t bs bt same, λ h. (refl, λ i. (refl, λ j. (refl, λ k. tt))));
   alike = λ l s t bs bt same n h. rw (other-record s t bs bt same (formed s (n .0))) (read-alike (recordOf s) (code-of s t bs bt same (formed s (n .0))) (l .input) (l .output));
-  quiet = λ e l s t h. tt;
+  quiet = λ l s t h. tt;
   tries = λ e l s h. rw (reading-tries (recordOf s) (l .input)) h;
+  gives = λ e. absurd (true≢false (sym e));
 }
 
 pub samples-done : (s sample o : List ℕ) → NoReason (samplesReasons s sample o) → samplesCall s sample o ≡ afterSample (recordOf s) sample o

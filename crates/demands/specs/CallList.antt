@@ -58,27 +58,23 @@ Stray sample = (k : ℕ) × (k < channels) × (finite (wordAt sample (4 * k)) �
 
 -- ---- the four calls
 
-abbrev pub factoryEntry : Call
-factoryEntry = record {
+-- a call over the record alone
+abbrev pub alone : (List ℕ → List Reason) → (List ℕ → Outcome) → Bool → Call
+alone reasons outcome resets = record {
   Lent = Unit {0};
   output = λ l. [];
   OfBytes = λ l. Unit {0};
-  reasons = λ l s. reason (length s ≢ recordSize) BadRecord ∷ [];
-  outcome = λ l s. factoryCall s;
+  reasons = λ l s. reasons s;
+  outcome = λ l s. outcome s;
   Quiet = λ l s t. Unit {0};
-  resets = true;
+  resets = resets;
 }
 
+abbrev pub factoryEntry : Call
+factoryEntry = alone (λ s. reason (length s ≢ recordSize) BadRecord ∷ []) factoryCall true
+
 abbrev pub powerOnEntry : Call
-powerOnEntry = record {
-  Lent = Unit {0};
-  output = λ l. [];
-  OfBytes = λ l. Unit {0};
-  reasons = λ l s. reason (Malformed s) BadRecord ∷ [];
-  outcome = λ l s. powerOnCall s;
-  Quiet = λ l s t. Unit {0};
-  resets = true;
-}
+powerOnEntry = alone (λ s. reason (Malformed s) BadRecord ∷ []) powerOnCall true
 
 -- a call over an input and an output buffer, which gives no new tries
 abbrev pub buffered : (List ℕ → List ℕ → List ℕ → List Reason) → (List ℕ → List ℕ → List ℕ → Outcome) → (Buffers → List ℕ → List ℕ → Type 0) → Call
