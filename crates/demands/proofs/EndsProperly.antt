@@ -1,11 +1,11 @@
 -- Every call ends properly, by its laws.
 use Rattle.demands.specs.CallList.{callOf}
 use Rattle.demands.specs.EndsProperly.{EndsProperly}
-use Rattle.demands.proofs.Laws.{ends-by, leaves-by}
+use Rattle.demands.proofs.Laws.{ends-by, unharmed-by}
 use Rattle.demands.proofs.AllLaws.{laws-of}
 
 pub ends-properly : EndsProperly
 ends-properly = record {
   ends = λ m s. ends-by (callOf (m .name)) (laws-of (m .name)) (m .lent) s;
-  leaves = λ m s b g. leaves-by (callOf (m .name)) (laws-of (m .name)) (m .lent) s b g;
+  unharmed = λ m s b g. unharmed-by (callOf (m .name)) (laws-of (m .name)) (m .lent) s b g;
 }

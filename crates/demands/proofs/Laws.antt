@@ -13,13 +13,12 @@ use Rattle.record.specs.Form.{InRange}
 use Rattle.record.proofs.Lens.{long, get-tries}
 use Rattle.record.proofs.RoundTrip.{well-formed}
 use Rattle.record.proofs.Whole.{bytes-bytes}
-use Rattle.call.specs.declared.Ending.{Ending}
-use Rattle.call.specs.Outcome.{Outcome, refused, done, Cause, inOrder}
+use Rattle.call.specs.Outcome.{Outcome, done, Cause, inOrder}
 use Rattle.call.specs.Ending.{NoReason, Ends}
 use Rattle.call.proofs.InOrder.{None, SameCauses, DecidesAll, in-order, in-order-both, ends, none-left, no-reason}
 use Rattle.demands.specs.Premise.{SameButCode, Alike}
-use Rattle.demands.specs.CallList.{Call}
-use Rattle.demands.specs.EndsProperly.{Leaving}
+use Rattle.demands.specs.CallList.{Malformed, Call}
+use Rattle.demands.specs.EndsProperly.{Unharmed}
 use Rattle.demands.proofs.Tests.{not-bad}
 
 pub record Laws (c : Call) : Type 1 where
@@ -59,22 +58,28 @@ module _ (c : Call) (w : Laws c) (l : c .Lent) (s : List ℕ) where
   pub ends-by : Ends (c .reasons l s) s o (c .outcome l s)
   ends-by = rw (w .chain l s) (ends s o finished (w .causes l s) (c .reasons l s) (w .decides l s) refl)
 
+  none : NoReason (c .reasons l s) → None (w .causes l s)
+  none n = no-reason (w .causes l s) (c .reasons l s) (w .decides l s) n
+
   -- what is left when nothing is wrong
   pub left-by : NoReason (c .reasons l s) → c .outcome l s ≡ finished
-  left-by n = w .chain l s ∙ none-left (w .causes l s) s o finished (no-reason (w .causes l s) (c .reasons l s) (w .decides l s) n)
+  left-by n = w .chain l s ∙ none-left (w .causes l s) s o finished (none n)
 
-  pub leaves-by : Bytes s → c .OfBytes l → Leaving s o (c .outcome l s)
-  leaves-by b g = rw (w .chain l s) (in-order (Leaving s o) (w .causes l s) s o finished stays left)
-    where
-      stays : (why : Ending) → Leaving s o (refused why s o)
-      stays why = record { record-length = refl; output-length = refl; well-formed = λ h. h }
+  -- the record of a call that is done, and the lengths of any
+  well-by : Bytes s → c .OfBytes l → NoReason (c .reasons l s) → ¬ Malformed (c .outcome l s .kept)
+  well-by b g n = rw (left-by n) (not-bad (bytesOf (w .after l s)) (well-formed (w .after l s) (w .keeps l s b g (none n))))
 
-      left : None (w .causes l s) → Leaving s o finished
-      left n = record {
-        record-length = long (w .after l s) ∙ sym (w .size l s n);
-        output-length = length-put o 0 (w .out l s) (omega (arith, w .room l s b g n));
-        well-formed = λ h. not-bad (bytesOf (w .after l s)) (well-formed (w .after l s) (w .keeps l s b g n));
-      }
+  abbrev Lengths : Outcome → Type 0
+  Lengths z = (length (z .kept) ≡ length s) × (length (z .output) ≡ length o)
+
+  lengths-by : Bytes s → c .OfBytes l → Lengths (c .outcome l s)
+  lengths-by b g =
+      rw (w .chain l s)
+      (in-order Lengths (w .causes l s) s o finished (λ why. (refl, refl))
+      (λ n. (long (w .after l s) ∙ sym (w .size l s n), length-put o 0 (w .out l s) (omega (arith, w .room l s b g n)))))
+
+  pub unharmed-by : Bytes s → c .OfBytes l → Unharmed s o (c .outcome l s)
+  unharmed-by b g = record { record-length = lengths-by b g .0; output-length = lengths-by b g .1; well-formed = λ e. well-by b g (ends-by .done-exactly .0 e) }
 
   pub bytes-by : Bytes s → c .OfBytes l → Bytes (c .outcome l s .kept)
   bytes-by b g = rw (w .chain l s) (in-order (λ z. Bytes (z .kept)) (w .causes l s) s o finished (λ why. b) (λ n. bytes-bytes (w .after l s) (w .keeps l s b g n)))

@@ -8,13 +8,13 @@ use Rattle.call.specs.Outcome.{Outcome}
 use Rattle.call.specs.Ending.{Ends}
 use Rattle.demands.specs.CallList.{Malformed, Made, callOf, outcomeOf}
 
--- Whatever a call answers, it leaves buffers as long as they were, and a well-formed record where it was given one.
-pub record Leaving (s o : List ℕ) (z : Outcome) : Type 0 where
+-- Whatever a call answers, the buffers are as long as they were; when it is done, the record is well formed (when it refuses, it is as it was: `ends`).
+pub record Unharmed (s o : List ℕ) (z : Outcome) : Type 0 where
   pub record-length : length (z .kept) ≡ length s
   pub output-length : length (z .output) ≡ length o
-  pub well-formed : ¬ Malformed s → ¬ Malformed (z .kept)
+  pub well-formed : z .answer .result ≡ 0 → ¬ Malformed (z .kept)
 
 pub record EndsProperly : Type 0 where
   -- The first reason that applies gives its number, zero counts, and record and output as they were; the result is 0 exactly when none applies.
   pub ends : (m : Made) (s : List ℕ) → let c = callOf (m .name) in Ends (c .reasons (m .lent) s) s (c .output (m .lent)) (outcomeOf m s)
-  pub leaves : (m : Made) (s : List ℕ) → let c = callOf (m .name) in Bytes s → c .OfBytes (m .lent) → Leaving s (c .output (m .lent)) (outcomeOf m s)
+  pub unharmed : (m : Made) (s : List ℕ) → let c = callOf (m .name) in Bytes s → c .OfBytes (m .lent) → Unharmed s (c .output (m .lent)) (outcomeOf m s)
