@@ -3,6 +3,8 @@ use Rattle.board.proofs.Exported.{all-exported}
 use Rattle.demands.specs.Demands.{Demands}
 use Rattle.demands.proofs.Unique.{unique}
 use Rattle.demands.proofs.EndsProperly.{ends-properly}
+use Rattle.demands.proofs.Room.{room}
+use Rattle.demands.proofs.Stored.{stored}
 use Rattle.demands.proofs.AsListed.{answers-as-listed}
 use Rattle.demands.proofs.Boards.{wrong-shut-out, kinds-exist}
 use Rattle.demands.proofs.Examples.{starred-hold}
@@ -13,6 +15,8 @@ demands = record {
   exported = all-exported;
   unique = unique;
   ends = ends-properly;
+  room = room;
+  stored = stored;
   answers = answers-as-listed;
   shut-out = wrong-shut-out;
   kinds = kinds-exist;

@@ -10,6 +10,8 @@ pub mod AllLaws
 pub mod Examples
 pub mod Unique
 pub mod EndsProperly
+pub mod Room
+pub mod Stored
 pub mod AsListed
 pub mod Boards
 pub mod Secrecy

@@ -23,6 +23,13 @@ use Rattle.demands.specs.CallList.{Malformed, Stray}
 pub not-bad : (s : List ℕ) → wellFormed s ≡ true → ¬ Malformed s
 not-bad s w e = true≢false (sym w ∙ e)
 
+unless-false : (t : Bool) → ¬ (t ≡ false) → t ≡ true
+unless-false true h = refl
+unless-false false h = absurd (h refl)
+
+pub well : (s : List ℕ) → ¬ Malformed s → wellFormed s ≡ true
+well s h = unless-false (wellFormed s) h
+
 bad-by : (b : Bool) → bad (formBy b) ≡ not b
 bad-by true = refl
 bad-by false = refl

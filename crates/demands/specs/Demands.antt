@@ -2,6 +2,8 @@
 use Rattle.board.proofs.Exported.{AllExported}
 use Rattle.demands.specs.Unique.{Unique}
 use Rattle.demands.specs.EndsProperly.{EndsProperly}
+use Rattle.demands.specs.Room.{Room}
+use Rattle.demands.specs.Stored.{Stored}
 use Rattle.demands.specs.AsListed.{AnswersAsListed}
 use Rattle.demands.specs.Boards.{WrongShutOut, KindsExist}
 use Rattle.demands.specs.Examples.{starred, ExamplesHold}
@@ -14,7 +16,9 @@ pub record Demands : Type 1 where
   pub unique : Unique
   -- 1: every call ends properly
   pub ends : EndsProperly
+  pub room : Room
   -- 2: the board answers as the tables say
+  pub stored : Stored
   pub answers : AnswersAsListed
   pub shut-out : WrongShutOut
   pub kinds : KindsExist

@@ -3,6 +3,8 @@ pub mod CallList
 pub mod Examples
 pub mod Unique
 pub mod EndsProperly
+pub mod Room
+pub mod Stored
 pub mod AsListed
 pub mod Boards
 pub mod Secrecy
