@@ -1,5 +1,5 @@
 -- The factory record and power-on, as stores into the bytes.
-use Prim.Native.Nat.{ℕ, _≤_}
+use Prim.Native.Nat.{ℕ, _-_, _≤_}
 use mathlib.Core.Path.{_≡_, refl, ap, _∙_}
 use mathlib.Core.Bool.{Bool}
 use mathlib.Core.List.{List, [], _∷_, _++_, append-nil}
@@ -10,13 +10,13 @@ use lib.Bits.{bitAnd, bitOr}
 use borrow.Author.Tests.{eqb-true}
 use Rattle.wire.specs.Numbers.{put}
 use Rattle.wire.proofs.PutLaws.{put-zero}
-use Rattle.record.specs.Layout.{recordSize, atFlags, atTries, atOutputs, atNameLength, atName, atPendingLength, nibble, bytesOf}
+use Rattle.record.specs.Layout.{recordSize, version, atFlags, atTries, atOutputs, atNameLength, atName, atPendingLength, nibble, bytesOf}
 use Rattle.record.specs.Births.{factoryName, factory, poweredOn}
 use Rattle.record.specs.InPlace.{Turns}
 use Rattle.record.proofs.Choices.{sixteen-each}
 
 abbrev head : List ℕ
-head = 0x00 ∷ recordSize ∷ 1 ∷ 4 ∷ 0 ∷ 0x55 ∷ 0x53 ∷ 0x43 ∷ 0x31 ∷ 0 ∷ 12 ∷ 0 ∷ 1 ∷ 1 ∷ []
+head = 0x00 ∷ recordSize ∷ version ∷ 4 ∷ 0 ∷ 0x55 ∷ 0x53 ∷ 0x43 ∷ 0x31 ∷ 0 ∷ 12 ∷ 0 ∷ 1 ∷ 1 ∷ []
 
 abbrev blank : List ℕ
 blank = replicate recordSize 0
@@ -35,7 +35,7 @@ fresh-flags : (a b c d : Bool) → bitOr (bitAnd (nibble a b c d) 244) 4 ≡ 4
 fresh-flags a b c d = eqb-true (bitOr (bitAnd (nibble a b c d) 244) 4) 4 (sixteen-each (λ a b c d. eqb (bitOr (bitAnd (nibble a b c d) 244) 4) 4) refl a b c d)
 
 pub power-on-stores : (s : List ℕ) → let t = set s atFlags (bitAnd (getD s atFlags 0) 244) in
-    Turns s (put (set (set (set t atFlags (bitOr (getD t atFlags 0) 4)) atTries 0) atOutputs 0) atPendingLength (replicate 67 0)) (λ r. poweredOn r)
+    Turns s (put (set (set (set t atFlags (bitOr (getD t atFlags 0) 4)) atTries 0) atOutputs 0) atPendingLength (replicate (recordSize - atPendingLength) 0)) (λ r. poweredOn r)
 unfolding put bytesOf poweredOn
 power-on-stores s r i e =
-    rw e (ap (λ (n : ℕ). put (set (set (set (bytesOf r) atFlags n) atTries 0) atOutputs 0) atPendingLength (replicate 67 0)) (fresh-flags (r .flags .opened) (r .flags .unlocked) (r .flags .sending) (r .flags .reading)))
+    rw e (ap (λ (n : ℕ). put (set (set (set (bytesOf r) atFlags n) atTries 0) atOutputs 0) atPendingLength (replicate (recordSize - atPendingLength) 0)) (fresh-flags (r .flags .opened) (r .flags .unlocked) (r .flags .sending) (r .flags .reading)))

@@ -2,6 +2,7 @@
 use Rattle.form.proofs.Fine.{pending-long, pending-zeros, pending-bad}
 use mathlib.Core.Path.{sym, _∙_}
 use native.Mathlib.Omega.{arith}
+use Rattle.record.specs.Layout.{atPendingLength}
 use borrow.Author.Needs.{needs}
 use Rattle.form.proofs.pending_fine.Statement.{statement}
 use Rattle.form.proofs.pending_fine.Tie as tie
@@ -10,7 +11,7 @@ shared-slice-read-n : tie.Need-shared-slice-read-n
 shared-slice-read-n c = search needs
 
 cast-n : tie.Need-cast-n
-cast-n c = omega (arith, c .shared-slice-known2 .given 56)
+cast-n c = omega (arith, c .shared-slice-known2 .given atPendingLength)
 
 returns : tie.Need-returns
 returns c = let z = c .before .before .before in pending-long (z .args .s .now) (z .pre) (c .if1 .taken)
