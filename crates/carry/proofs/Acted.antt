@@ -4,6 +4,7 @@ use mathlib.Core.Path.{_≡_, refl, sym, ap, _∙_}
 use mathlib.Core.List.{List, []}
 use native.Mathlib.Omega.{arith}
 use lib.ListN.{length, getD, take, drop}
+use Rattle.wire.specs.Sizes.{frameMost}
 use Rattle.wire.specs.Numbers.{Bytes, put}
 use Rattle.wire.specs.Serial.{headOf, numberOf, paramsOf}
 use Rattle.wire.specs.Replies.{Reply, kindOf, replyBytes, around}
@@ -75,7 +76,7 @@ part f = take (length f - 1 - 3) (drop 3 f)
 part-is : (f : List ℕ) → part f ≡ paramsOf f
 part-is f = let e : length f - 1 - 3 ≡ length f - 4 = omega arith in rw e refl
 
-module _ (r : Record) (f before : List ℕ) (at : ℕ) (v : Verdict) (kept : List ℕ) (acts : Acts r (headOf f) (numberOf f) (part f) v kept) (room : at + 19 ≤ length before) where
+module _ (r : Record) (f before : List ℕ) (at : ℕ) (v : Verdict) (kept : List ℕ) (acts : Acts r (headOf f) (numberOf f) (part f) v kept) (room : at + frameMost ≤ length before) where
   verdict-is : v ≡ verdictOf r (headOf f) (numberOf f) (paramsOf f)
   verdict-is = acts .verdict ∙ rw (part-is f) refl
 

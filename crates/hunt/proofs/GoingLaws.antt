@@ -1,9 +1,10 @@
 -- How far the hunting code has come, for any set of heads, with the record in its bytes.
-use Prim.Native.Nat.{ℕ, _+_, _-_, _*_, _/_, _≤_}
+use Prim.Native.Nat.{ℕ, _+_, _-_, _≤_}
 use mathlib.Core.Path.{_≡_, subst}
 use mathlib.Core.List.{List}
 use lib.ListN.{length, take, drop}
 use mathlib.Core.Bool.{true}
+use Rattle.wire.specs.Sizes.{frameMost}
 use Rattle.wire.specs.Numbers.{Bytes}
 use Rattle.wire.specs.Frames.{Heads, look, Take, Tear, Passed}
 use Rattle.wire.specs.Serial.{isHead, headOf}
@@ -11,11 +12,12 @@ use Rattle.wire.proofs.CutLaws.{fair-whole}
 use Rattle.wire.proofs.SerialLaws.{Huntable, taken-headed}
 use Rattle.wire.proofs.AlongLaws.{found-part}
 use Rattle.record.specs.Record.{Record}
-use Rattle.record.specs.Layout.{recordOf}
+use Rattle.record.specs.Layout.{recordSize, recordOf}
 use Rattle.record.specs.InPlace.{Sound}
 use Rattle.record.proofs.InPlaceLaws.{holds-is, holds-sound, holds-long}
 use Rattle.command.specs.Step.{stepOf}
 use Rattle.carry.specs.Carry.{Carries}
+use Rattle.hunt.specs.Hunt.{roomFor}
 use Rattle.hunt.specs.Progress.{Going}
 use Rattle.hunt.proofs.SofarLaws.{sofar-start, sofar-pass, sofar-tear, sofar-long, sofar-room, sofar-take}
 
@@ -27,7 +29,7 @@ module _ (heads : Heads) (l before : List ℕ) (start : ℕ) where
     pub going-sound : Sound kept
     going-sound = holds-sound (g .board) kept (g .held)
 
-    pub going-kept : length kept ≡ 123
+    pub going-kept : length kept ≡ recordSize
     going-kept = holds-long (g .board) kept (g .held)
 
     pub going-pass : (to : ℕ) → Passed heads l at to → Going heads r l before start to (skipped + (to - at)) wrote kept out
@@ -36,12 +38,12 @@ module _ (heads : Heads) (l before : List ℕ) (start : ℕ) where
     pub going-tear : look heads (drop at l) ≡ Tear → Going heads r l before start (at + 1) (skipped + 1) wrote kept out
     going-tear e = record { board = g .board; held = g .held; sofar = sofar-tear heads r l before start (g .board) at skipped wrote out (g .sofar) e }
 
-    module _ (room : start + 19 * (length l / 4) ≤ length before) where
+    module _ (room : start + roomFor (length l) ≤ length before) where
       pub going-long : length out ≡ length before
       going-long = sofar-long heads r l before start (g .board) at skipped wrote out (g .sofar) room
 
       module _ (n : ℕ) (e : look heads (drop at l) ≡ Take n) where
-        pub going-room : wrote + 19 ≤ length out
+        pub going-room : wrote + frameMost ≤ length out
         going-room = sofar-room heads r l before start (g .board) at skipped wrote out (g .sofar) room n e
 
         pub going-take : (end : ℕ) (kept′ out′ : List ℕ) → Carries (recordOf kept) (take (4 + n) (drop at l)) out wrote end kept′ out′ → Going heads r l before start (at + 4 + n) skipped end kept′ out′

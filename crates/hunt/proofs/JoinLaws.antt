@@ -65,7 +65,7 @@ module _ (heads : Heads) (s l before : List ℕ) (start : ℕ) (p : Progress) (m
   rests-kept = going-sound heads l before start (recordOf s) (p .at) (p .skipped) (p .wrote) mid out (h .going)
 
   pub rests-short : Huntable heads → length (take (length l - p .at) (drop (p .at) l)) ≤ pendingRoom
-  rests-short ok = rw (part-rest l (p .at)) (halted-short heads ok (h .going .board) (drop (p .at) l) (stopped Record Reply heads onPiece (h .going .board) l (p .at) (length l) (omega arith) (h .stops)))
+  rests-short ok = rw (part-rest l (p .at)) (omega (arith, halted-short heads ok (h .going .board) (drop (p .at) l) (stopped Record Reply heads onPiece (h .going .board) l (p .at) (length l) (omega arith) (h .stops))))
 
   pub rests : (kept : List ℕ) → Turns mid kept (λ z. withPending z (take (length l - p .at) (drop (p .at) l))) → Rests heads (recordOf s) l before start p kept out
   rests kept t = record { mid = mid; hunts = h; turns = subst (λ (x : List ℕ). Turns mid kept (λ z. withPending z x)) (part-rest l (p .at)) t }
@@ -83,15 +83,18 @@ module _ (s : List ℕ) (sound : Sound s) where
   pub held-is : getD s atPendingLength 0 ≡ length (r .pending)
   held-is = ap (λ (x : List ℕ). getD x atPendingLength 0) (sound .same) ∙ get-pending-length r
 
-  pub held-few : getD s atPendingLength 0 ≤ pendingRoom
+  pub held-few : getD s atPendingLength 0 ≤ waitMost
   held-few = omega (arith, held-is, pending-short (r .pending) (sound .fit .pending))
+
+  pub held-fits : getD s atPendingLength 0 ≤ pendingRoom
+  held-fits = omega (arith, held-few)
 
   pub held-inside : atPending + getD s atPendingLength 0 ≤ length s
   held-inside = omega (arith, held-few, holds-long r s sound)
 
   pub pending-part : take (getD s atPendingLength 0) (drop atPending s) ≡ r .pending
   unfolding recordOf
-  pending-part = sym (take-take (getD s atPendingLength 0) pendingRoom (drop atPending s) held-few) ∙ ap (take (getD s atPendingLength 0)) (sym (part-is pendingRoom s atPending (omega (arith, holds-long r s sound))))
+  pending-part = sym (take-take (getD s atPendingLength 0) pendingRoom (drop atPending s) held-fits) ∙ ap (take (getD s atPendingLength 0)) (sym (part-is pendingRoom s atPending (omega (arith, holds-long r s sound))))
 
 -- ---- the joined head of the pending bytes p and the input
 
@@ -117,7 +120,7 @@ module _ (p input head : List ℕ) (held total : ℕ) (held-is : held ≡ length
 
     module _ (ok : Huntable heads) (a : h .at < held) where
       pub short-first : length (take (total - h .at) (drop (h .at) head)) ≤ pendingRoom
-      short-first = rw waiting-part (head-short heads r p input before n refl h kept out found ok (rw held-is at a))
+      short-first = rw waiting-part (omega (arith, head-short heads r p input before n refl h kept out found ok (rw held-is at a)))
 
       pub serves-first : (kept′ : List ℕ) → Turns kept kept′ (λ z. withPending z (take (total - h .at) (drop (h .at) head))) → ServesFor heads r (p ++ input) before (record { written = h .wrote; skipped = h .skipped }) kept′ out
       serves-first kept′ t =

@@ -1,5 +1,5 @@
 -- A bytes call that passed its checks, for any set of heads: first the candidates that start in the pending bytes, then the input itself.
-use Prim.Native.Nat.{ℕ, _+_, _-_, _*_, _/_, _≤_, _<_}
+use Prim.Native.Nat.{ℕ, _+_, _-_, _≤_, _<_}
 use mathlib.Core.Path.{_≡_, refl, sym, ap, _∙_, subst}
 use mathlib.Core.List.{List, _++_, append-assoc}
 use mathlib.Core.Logic.{_⊎_, ⊎-elim}
@@ -7,6 +7,7 @@ use native.Mathlib.Nat.{zero-add}
 use native.Mathlib.Omega.{arith}
 use lib.ListN.{length, take, drop, length-append, length-drop, take-append-drop}
 use lib.Seq.{take-all, length-take-le, drop-append-le, drop-append-add}
+use Rattle.wire.specs.Sizes.{frameMost, waitMost}
 use Rattle.wire.specs.Numbers.{put}
 use Rattle.wire.specs.Frames.{Heads, look, Wait, cut}
 use Rattle.wire.specs.Serial.{serial}
@@ -23,7 +24,7 @@ use Rattle.record.specs.Layout.{bytesOf, recordOf}
 use Rattle.record.specs.InPlace.{Turns}
 use Rattle.record.proofs.InPlaceLaws.{holds-is}
 use Rattle.command.specs.Step.{onPiece}
-use Rattle.hunt.specs.Hunt.{huntOf, recordAfter}
+use Rattle.hunt.specs.Hunt.{huntOf, recordAfter, roomFor}
 use Rattle.hunt.specs.Progress.{Hunts, Serves}
 use Rattle.hunt.specs.declared.Progress.{Progress}
 use Rattle.hunt.specs.declared.Counts.{Counts}
@@ -45,15 +46,15 @@ unfolding recordAfter
 after-of h = refl
 
 -- what waits at the end of a hunt is short
-pub halted-short : (heads : Heads) → Huntable heads → (b : Record) (g : List ℕ) → hunt heads onPiece b g ≡ halt b g → length g ≤ 18
+pub halted-short : (heads : Heads) → Huntable heads → (b : Record) (g : List ℕ) → hunt heads onPiece b g ≡ halt b g → length g ≤ waitMost
 unfolding hunt
 halted-short heads ok b g e =
     let w : cut heads g .waiting ≡ g = ap (λ (h : Hunted Record Reply). h .waiting) e in
-    subst (λ (x : List ℕ). length x ≤ 18) w (waiting-short heads ok g)
+    subst (λ (x : List ℕ). length x ≤ waitMost) w (waiting-short heads ok g)
 
 -- ---- the pending bytes p and as much of the input i as a candidate that starts in them can reach
 
-module _ (p i : List ℕ) (n : ℕ) (n-is : n ≡ length i - (length i - 19)) where
+module _ (p i : List ℕ) (n : ℕ) (n-is : n ≡ length i - (length i - frameMost)) where
   abbrev joined : List ℕ
   joined = p ++ take n i
 
@@ -68,7 +69,7 @@ module _ (p i : List ℕ) (n : ℕ) (n-is : n ≡ length i - (length i - 19)) wh
     waits-all : at < length p → (length p ≤ at) ⊎ (look heads (drop at joined) ≡ Wait) → (joined ≡ p ++ i) × (hunt heads onPiece b (drop at joined) ≡ halt b (drop at joined))
     waits-all h w = ⊎-elim (λ e. absurd (omega arith))
         (λ e.
-        let q : length (drop at joined) < 19 = wait-short heads 19 (ok .under) (drop at joined) e in
+        let q : length (drop at joined) < frameMost = wait-short heads frameMost (ok .under) (drop at joined) e in
         let m : length i ≤ n = omega (arith, length-drop at joined, joined-length) in
         (rw (take-all n i m) refl, hunt-wait Record Reply heads onPiece b (drop at joined) e)) w
 
@@ -89,7 +90,7 @@ module _ (heads : Heads) (r : Record) (p input before : List ℕ) where
       → wrote ≡ length (written said) → out ≡ put before 0 (written said) → ServesFor heads r (p ++ input) before (record { written = wrote; skipped = k }) kept out
   serves-said b said k wrote rest kept out h e w o = record { record-is = rw (h, after-of) e; written-is = rw h w; skipped-is = rw h refl; bytes = rw h o }
 
-  module _ (n : ℕ) (n-is : n ≡ length input - (length input - 19)) (h : Progress) (kept out : List ℕ)
+  module _ (n : ℕ) (n-is : n ≡ length input - (length input - frameMost)) (h : Progress) (kept out : List ℕ)
       (f : Hunts heads r (p ++ take n input) before (length p) 0 h kept out) where
     abbrev head : List ℕ
     head = p ++ take n input
@@ -102,7 +103,7 @@ module _ (heads : Heads) (r : Record) (p input before : List ℕ) where
       all : (head ≡ p ++ input) × (hunt heads onPiece (f .going .board) (drop (h .at) head) ≡ halt (f .going .board) (drop (h .at) head))
       all = waits-all p input n n-is heads ok r (f .going .board) (h .at) (h .skipped) (f .going .sofar .said) (f .going .sofar .along) a (f .stops)
 
-      pub head-short : length (drop (h .at) head) ≤ 18
+      pub head-short : length (drop (h .at) head) ≤ waitMost
       head-short = halted-short heads ok (f .going .board) (drop (h .at) head) (all .1)
 
       pub serves-head : (kept′ : List ℕ) → Turns kept kept′ (λ x. withPending x (drop (h .at) head)) → ServesFor heads r (p ++ input) before (record { written = h .wrote; skipped = h .skipped }) kept′ out
@@ -113,14 +114,14 @@ module _ (heads : Heads) (r : Record) (p input before : List ℕ) where
           (t (g .board) (g .held .fit) (g .held .same)) (g .sofar .wrote-is ∙ zero-add _) (g .sofar .bytes)
 
     -- the hunt went on in the input
-    module _ (past : length p ≤ h .at) (room : 19 * ((length p + length input) / 4) ≤ length before) where
+    module _ (past : length p ≤ h .at) (room : roomFor (length p + length input) ≤ length before) where
       pub rest-starts : h .at - length p ≤ length input
       rest-starts = omega (arith, f .going .sofar .along .within, joined-length p input n n-is)
 
       said-fits : 0 + length (written (f .going .sofar .said)) ≤ length before
       said-fits = omega (arith, f .going .sofar .room, f .going .sofar .along .within, joined-length p input n n-is)
 
-      pub rest-room : h .wrote + 19 * (length rest / 4) ≤ length out
+      pub rest-room : h .wrote + roomFor (length rest) ≤ length out
       rest-room =
           let m : length out ≡ length before = ap length (f .going .sofar .bytes) ∙ length-put before 0 (written (f .going .sofar .said)) said-fits in
           omega (arith, f .going .sofar .room, f .going .sofar .wrote-is, rest-starts, length-drop (h .at - length p) input)

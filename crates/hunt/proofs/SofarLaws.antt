@@ -1,10 +1,11 @@
 -- How the hunting code gets on, for any set of heads: the board on its way through the stream, and its replies in the output.
-use Prim.Native.Nat.{ℕ, _+_, _-_, _*_, _/_, _≤_}
+use Prim.Native.Nat.{ℕ, _+_, _-_, _≤_}
 use mathlib.Core.Path.{_≡_, refl, sym, ap, _∙_, subst}
 use mathlib.Core.List.{List, [], _∷_, _++_, append-nil}
 use native.Mathlib.Nat.{add-zero}
 use native.Mathlib.Omega.{arith}
 use lib.ListN.{length, take, drop, length-append, length-drop}
+use Rattle.wire.specs.Sizes.{frameMost}
 use Rattle.wire.specs.Frames.{Heads, look, Take, Tear, Passed}
 use Rattle.wire.specs.Replies.{Reply, replyBytes, written}
 use Rattle.wire.specs.Run.{Along}
@@ -15,6 +16,7 @@ use Rattle.wire.proofs.AlongLaws.{along-start, along-pass, along-tear, along-ta
 use Rattle.record.specs.Record.{Record}
 use Rattle.command.specs.Step.{stepOf, onPiece}
 use Rattle.carry.specs.Carry.{Carries}
+use Rattle.hunt.specs.Hunt.{roomFor}
 use Rattle.hunt.specs.Progress.{Sofar}
 
 module _ (heads : Heads) (r : Record) (l before : List ℕ) (start : ℕ) where
@@ -35,12 +37,12 @@ module _ (heads : Heads) (r : Record) (l before : List ℕ) (start : ℕ) where
       bytes = f .bytes;
     }
 
-    module _ (room : start + 19 * (length l / 4) ≤ length before) where
+    module _ (room : start + roomFor (length l) ≤ length before) where
       pub sofar-long : length out ≡ length before
       sofar-long = ap length (f .bytes) ∙ length-put before start (written (f .said)) (omega (arith, f .room, f .along .within))
 
       -- the reply to a frame fits into what is left of the output
-      pub sofar-room : (n : ℕ) → look heads (drop at l) ≡ Take n → wrote + 19 ≤ length out
+      pub sofar-room : (n : ℕ) → look heads (drop at l) ≡ Take n → wrote + frameMost ≤ length out
       sofar-room n e =
           let whole = take-room heads (drop at l) n e in
           omega (arith, f .room, f .wrote-is, whole .0, length-drop at l, sofar-long)

@@ -11,6 +11,7 @@ use lib.Dec.{ltb, leb, eqb}
 use borrow.Author.Tests.{ltb-true, ltb-false, lt-ltb, le-ltb, leb-true, leb-false, lt-leb, le-leb, eq-eqb, ne-eqb}
 use Rattle.wire.specs.declared.Line.{Line}
 use Rattle.wire.specs.declared.Line.the-variants.{Board}
+use Rattle.wire.specs.Sizes.{frameMost, waitMost}
 use Rattle.wire.specs.Frames.{NeedMore, Of, Heads, Skip, Wait, Take, Tear, look, cut, isWait, waits, Passed}
 use Rattle.wire.specs.Serial.{Head, NotHead, Fixed, front, fronted, isHead, endsIn85, serial, lineHead, headsOf, Noise, sixLines, headOf}
 use Rattle.wire.proofs.CutLaws as cuts
@@ -95,18 +96,18 @@ module _ (head : ℕ → Head) (sound : List ℕ → Bool) where
 
 -- ---- what is asked of the heads that a board hunts for
 
--- a stream may be cut anywhere, frames have at most 19 bytes, and their head bytes are 9n or An
+-- a stream may be cut anywhere, frames have at most `frameMost` bytes, and their head bytes are 9n or An
 pub record Huntable (h : Heads) : Type 0 where
   pub steady : Steady h
-  pub under : Under h 19
+  pub under : Under h frameMost
   pub headed : (l : List ℕ) (n : ℕ) → h .size l ≡ Of n → isHead (getD l 1 0) ≡ true
 
 module _ (h : Heads) (ok : Huntable h) where
-  -- at most 18 bytes wait
-  pub waits-few : (l : List ℕ) → waits h l ≡ true → length l ≤ 18
-  waits-few l t = let q : length l < 19 = cuts.waits-short h 19 (ok .under) l t in omega arith
+  -- at most `waitMost` bytes wait
+  pub waits-few : (l : List ℕ) → waits h l ≡ true → length l ≤ waitMost
+  waits-few l t = let q : length l < frameMost = cuts.waits-short h frameMost (ok .under) l t in omega arith
 
-  pub waiting-short : (l : List ℕ) → length (cut h l .waiting) ≤ 18
+  pub waiting-short : (l : List ℕ) → length (cut h l .waiting) ≤ waitMost
   waiting-short l = waits-few (cut h l .waiting) (cuts.cut-waits h l)
 
   pub taken-headed : (l : List ℕ) (n : ℕ) → look h l ≡ Take n → isHead (headOf (take (4 + n) l)) ≡ true
@@ -118,12 +119,12 @@ pub heads-of : (k : Line) → headsOf k ≡ fronted (lineHead k) endsIn85
 unfolding serial
 heads-of Board = refl
 
-low-half : (t : Bool) (b n : ℕ) → cond t (Fixed (b % 16)) NotHead ≡ Fixed n → (4 + n ≤ 19) × (t ≡ true)
+low-half : (t : Bool) (b n : ℕ) → cond t (Fixed (b % 16)) NotHead ≡ Fixed n → (4 + n ≤ frameMost) × (t ≡ true)
 low-half true b n e = let q : b % 16 ≡ n = cc in (omega arith, refl)
 low-half false b n e = let z : _≡_ {A = ℕ} 0 1 = cc in absurd (omega arith)
 
--- no line has a frame of more than 19 bytes
-pub line-short : (k : Line) (b n : ℕ) → lineHead k b ≡ Fixed n → 4 + n ≤ 19
+-- no line has a longer frame
+pub line-short : (k : Line) (b n : ℕ) → lineHead k b ≡ Fixed n → 4 + n ≤ frameMost
 line-short Board b n e = low-half (isHead b) b n e .0
 
 -- nor a head other than 9n and An
@@ -133,7 +134,7 @@ line-headed Board b n e = low-half (isHead b) b n e .1
 pub huntable : (k : Line) → Huntable (headsOf k)
 huntable k = rw (heads-of k) (record {
   steady = fronted-steady (lineHead k) endsIn85;
-  under = fronted-under (lineHead k) endsIn85 19 (line-short k) (omega arith);
+  under = fronted-under (lineHead k) endsIn85 frameMost (line-short k) (omega arith);
   headed = λ l n e. line-headed k (getD l 1 0) n (front-says (lineHead k) endsIn85 l n e);
 })
 
@@ -145,10 +146,10 @@ serial-huntable = huntable Board
 pub serial-steady : Steady serial
 serial-steady = serial-huntable .steady
 
-pub serial-under : Under serial 19
+pub serial-under : Under serial frameMost
 serial-under = serial-huntable .under
 
-pub pending-short : (l : List ℕ) → waits serial l ≡ true → length l ≤ 18
+pub pending-short : (l : List ℕ) → waits serial l ≡ true → length l ≤ waitMost
 pending-short l t = waits-few serial serial-huntable l t
 
 -- ---- the six lines

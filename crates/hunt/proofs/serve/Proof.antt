@@ -5,7 +5,7 @@ use Prim.Native.Nat.{ℕ, _+_, _-_, _≤_, _<_}
 use mathlib.Core.Path.{_≡_, refl, sym, subst}
 use mathlib.Core.List.{List}
 use lib.ListN.{length, getD, take, drop}
-use Rattle.wire.specs.Sizes.{frameMost}
+use Rattle.wire.specs.Sizes.{frameMost, waitMost}
 use Rattle.hunt.specs.Hunt.{roomFor}
 use Rattle.record.specs.Layout.{pendingRoom, atPendingLength, recordOf}
 use Rattle.record.specs.InPlace.{Sound}
@@ -43,7 +43,7 @@ module _ (j : tie.After-join) where
   sound : Sound rec₀
   sound = j .before .before .before .before .before .before .before .pre .0
 
-  few : held ≤ pendingRoom
+  few : held ≤ waitMost
   few = held-few rec₀ sound
 
   abbrev waiting : List ℕ

@@ -1,7 +1,7 @@
 -- `board_bytes`: the bytes call leaves its outcome, whichever check refuses it or none.
 use native.Mathlib.Omega.{arith}
 use Rattle.board.proofs.Ends.{good-long, good-sound}
-use Rattle.hunt.proofs.JoinLaws.{held-is, held-few}
+use Rattle.hunt.proofs.JoinLaws.{held-is, held-few, held-fits}
 use Rattle.board.proofs.BytesEnds.{served-small, bytes-bad-record, bytes-bad-length, bytes-no-room, bytes-done}
 use Prim.Native.Nat.{ℕ}
 use mathlib.Core.Path.{_≡_, refl, sym, _∙_}
@@ -69,7 +69,7 @@ cast-held : tie.Need-cast-held
 cast-held c = omega (arith, held-few (rec₀ (c .before .before)) (sound (c .before .before)))
 
 room-for-requires : tie.Need-room-for-requires
-room-for-requires c κs = (held-few (rec₀ (c .before .before)) (sound (c .before .before)), omega (arith, c .before .if1 .left))
+room-for-requires c κs = (held-fits (rec₀ (c .before .before)) (sound (c .before .before)), omega (arith, c .before .if1 .left))
 
 ended-requires-3 : tie.Need-ended-requires-3
 ended-requires-3 c κs = search needs
