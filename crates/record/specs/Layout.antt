@@ -169,7 +169,7 @@ seat = record { version = 8; room = 19; heads = seatHeads; channels = 8; filters
 abbrev pub current : Plan
 current = plan1
 
--- 123, as `Places` and `record/src/places` have it
+-- as `Places` and `record/src/places` have it in numbers
 abbrev pub recordSize : ℕ
 recordSize = planSize current
 
