@@ -8,7 +8,7 @@ use borrow.Author.Tests.{lt-ltb, le-ltb}
 use Rattle.wire.specs.Sizes.{inputMost, streamMost}
 use Rattle.wire.specs.Numbers.{Bytes}
 use Rattle.wire.specs.Serial.{serial}
-use Rattle.wire.specs.Replies.{written}
+use Rattle.wire.specs.Replies.{repliesBytes}
 use Rattle.wire.specs.Run.{hunt}
 use Rattle.wire.proofs.CutLaws.{conserved}
 use Rattle.wire.proofs.SerialLaws.{pending-short}
@@ -19,7 +19,7 @@ use Rattle.record.specs.InPlace.{Sound}
 use Rattle.record.specs.declared.Form.the-variants.{Good, Bad}
 use Rattle.hunt.specs.Hunt.{huntOf, roomFor}
 use Rattle.hunt.specs.Progress.{Serves}
-use Rattle.call.specs.Outcome.{zeroes, refused, Leaves}
+use Rattle.call.specs.Outcome.{noCounts, refused, Leaves}
 use Rattle.call.proofs.InOrder.{left}
 use Rattle.board.specs.Calls.{afterBytes, bytesCall}
 use Rattle.call.specs.declared.Answer.{Answer}
@@ -41,18 +41,18 @@ served-small s input o p t out sound b h f =
     (omega (arith, few, f .written-is, room-enough (recordOf s) input b (sound .fit)), omega (arith, few, f .skipped-is, skipped-most (recordOf s) input))
 
 module _ (s input o : List ℕ) (a : Answer) where
-  pub bytes-bad-record : formOf s ≡ Bad → a ≡ zeroes BadRecord → Leaves (bytesCall s input o) a s o
+  pub bytes-bad-record : formOf s ≡ Bad → a ≡ noCounts BadRecord → Leaves (bytesCall s input o) a s o
   bytes-bad-record g e = left (bytesCall s input o) (refused BadRecord s o) (bytes-by s input o ∙ rw g refl) a s o e refl refl
 
   module _ (g : formOf s ≡ Good) where
-    pub bytes-bad-length : inputMost < length input → a ≡ zeroes BadLength → Leaves (bytesCall s input o) a s o
+    pub bytes-bad-length : inputMost < length input → a ≡ noCounts BadLength → Leaves (bytesCall s input o) a s o
     bytes-bad-length h e = left (bytesCall s input o) (refused BadLength s o) (bytes-by s input o ∙ rw (g, lt-ltb inputMost (length input) h) refl) a s o e refl refl
 
     module _ (bytes : Bytes s) (h : length input ≤ inputMost) where
       pub room-is : getD s atPendingLength 0 ≡ length (recordOf s .pending)
       room-is = held-is s (good-sound s bytes g)
 
-      pub bytes-no-room : length o < roomFor (getD s atPendingLength 0 + length input) → a ≡ zeroes NoRoom → Leaves (bytesCall s input o) a s o
+      pub bytes-no-room : length o < roomFor (getD s atPendingLength 0 + length input) → a ≡ noCounts NoRoom → Leaves (bytesCall s input o) a s o
       bytes-no-room k e =
           let k′ : length o < roomFor (length (recordOf s .pending) + length input) = rw room-is at k in
           left (bytesCall s input o) (refused NoRoom s o)

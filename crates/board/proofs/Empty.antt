@@ -8,7 +8,7 @@ use borrow.Author.Tests.{le-ltb}
 use Rattle.wire.specs.Sizes.{waitMost}
 use Rattle.wire.specs.Numbers.{Bytes}
 use Rattle.wire.specs.Serial.{serial}
-use Rattle.wire.specs.Replies.{written}
+use Rattle.wire.specs.Replies.{repliesBytes}
 use Rattle.wire.specs.Run.{runs, runCut, hunt}
 use Rattle.wire.proofs.CutLaws.{waits-cut}
 use Rattle.wire.proofs.PutLaws.{put-nil}
@@ -33,8 +33,8 @@ kept-is : (r : Record) → recordAfter (record { state = r; said = []; skipped =
 unfolding recordAfter withPending
 kept-is r = refl
 
-nothing-written : written [] ≡ []
-unfolding written
+nothing-written : repliesBytes [] ≡ []
+unfolding repliesBytes
 nothing-written = refl
 
 pub empty-input : (s o : List ℕ) → Bytes s → wellFormed s ≡ true → roomFor (length (recordOf s .pending) + 0) ≤ length o → bytesCall s [] o ≡ refused Done s o

@@ -18,7 +18,7 @@ use Rattle.record.specs.declared.Form.the-variants.{Good, Bad}
 use Rattle.record.proofs.RoundTrip.{in-range, write-back}
 use Rattle.call.specs.declared.Answer.{Answer}
 use Rattle.call.specs.declared.Ending.the-variants.{Done, BadRecord}
-use Rattle.call.specs.Outcome.{zeroes, refused, Leaves}
+use Rattle.call.specs.Outcome.{noCounts, refused, Leaves}
 use Rattle.call.proofs.InOrder.{left}
 use Rattle.board.specs.Calls.{factoryCall, powerOnCall}
 use Rattle.board.proofs.Unfolded.{factory-by, power-on-by}
@@ -48,17 +48,17 @@ good-sound s b e = record { fit = in-range s b (good-well s e); same = sym (writ
 -- ---- factory and power-on
 
 module _ (s : List ℕ) (a : Answer) where
-  pub factory-refuses : (length s ≡ recordSize → ⊥) → a ≡ zeroes BadRecord → Leaves (factoryCall s) a s []
+  pub factory-refuses : (length s ≡ recordSize → ⊥) → a ≡ noCounts BadRecord → Leaves (factoryCall s) a s []
   factory-refuses h e = left (factoryCall s) (refused BadRecord s []) (factory-by s ∙ rw (ne-eqb (length s) recordSize h) refl) a s [] e refl refl
 
-  pub factory-ends : length s ≡ recordSize → (t : List ℕ) → t ≡ bytesOf factory → a ≡ zeroes Done → Leaves (factoryCall s) a t []
+  pub factory-ends : length s ≡ recordSize → (t : List ℕ) → t ≡ bytesOf factory → a ≡ noCounts Done → Leaves (factoryCall s) a t []
   factory-ends h t q e =
       left (factoryCall s) (refused Done (bytesOf factory) []) (factory-by s ∙ rw (eq-eqb (length s) recordSize h, put-nil [] 0) refl) a t [] e q refl
 
-  pub power-on-refuses : formOf s ≡ Bad → a ≡ zeroes BadRecord → Leaves (powerOnCall s) a s []
+  pub power-on-refuses : formOf s ≡ Bad → a ≡ noCounts BadRecord → Leaves (powerOnCall s) a s []
   power-on-refuses h e = left (powerOnCall s) (refused BadRecord s []) (power-on-by s ∙ rw h refl) a s [] e refl refl
 
-  pub power-on-ends : Bytes s → formOf s ≡ Good → (t : List ℕ) → Turns s t (λ r. poweredOn r) → a ≡ zeroes Done → Leaves (powerOnCall s) a t []
+  pub power-on-ends : Bytes s → formOf s ≡ Good → (t : List ℕ) → Turns s t (λ r. poweredOn r) → a ≡ noCounts Done → Leaves (powerOnCall s) a t []
   power-on-ends b h t q e =
       let sound = good-sound s b h in
       left (powerOnCall s) (refused Done (bytesOf (poweredOn (recordOf s))) []) (power-on-by s ∙ rw (h, put-nil [] 0) refl) a t [] e (q (recordOf s) (sound .fit) (sound .same)) refl

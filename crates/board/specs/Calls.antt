@@ -6,7 +6,7 @@ use lib.ListN.{length}
 use lib.Dec.{ltb, eqb}
 use Rattle.wire.specs.Sizes.{inputMost}
 use Rattle.wire.specs.Numbers.{bytesAt, put}
-use Rattle.wire.specs.Replies.{Reply, written}
+use Rattle.wire.specs.Replies.{Reply, repliesBytes}
 use Rattle.wire.specs.Run.{Hunted}
 use Rattle.peak.specs.Pairs.{allFinite}
 use Rattle.record.specs.Record.{Record}
@@ -50,11 +50,11 @@ bytesCauses s input o =
 
 -- "The call returns the reply bytes written and the number of bytes skipped."
 abbrev pub afterBytes : Hunted Record Reply → List ℕ → Outcome
-afterBytes h o = done (recordAfter h) (written (h .said)) (h .skipped) o
+afterBytes h o = done (recordAfter h) (repliesBytes (h .said)) (h .skipped) o
 
 -- "bytes (received bytes in, replies out)"
 unfoldable pub bytesCall : List ℕ → List ℕ → List ℕ → Outcome
-unfolding huntOf recordAfter written bytesOf recordOf put wellFormed
+unfolding huntOf recordAfter repliesBytes bytesOf recordOf put wellFormed
 bytesCall s input o = inOrder (bytesCauses s input o) s o (afterBytes (huntOf (recordOf s) input) o)
 
 -- ---- samples
@@ -64,8 +64,8 @@ abbrev pub sampleSize : ℕ
 sampleSize = 4 * channels
 
 -- "(28 bytes)"
-abbrev pub frameSize : ℕ
-frameSize = 4 + sampleSize
+abbrev pub measuringSize : ℕ
+measuringSize = 4 + sampleSize
 
 -- "AA 15 B0, the 24 bytes, 85": a measuring frame of n channels, whose second byte is 15 at six; `six-channels` of board/proofs/SampleEnds shows it at six
 abbrev pub measuringFrame : ℕ → List ℕ → List ℕ
@@ -76,7 +76,7 @@ abbrev pub samplesCauses : List ℕ → List ℕ → List ℕ → List Cause
 samplesCauses s sample o =
     cause (bad (formOf s)) BadRecord
     ∷ cause (not (eqb (length sample) sampleSize)) BadLength
-    ∷ cause (ltb (length o) frameSize) NoRoom
+    ∷ cause (ltb (length o) measuringSize) NoRoom
     ∷ cause (not (allFinite channels sample 0)) NotFinite
     ∷ []
 

@@ -5,7 +5,7 @@ ghost use lib.ListN.{length};
 ghost use Rattle.wire.specs.Numbers.{put};
 ghost use Rattle.record.specs.Layout.{channels};
 ghost use Rattle.call.specs.Outcome.{Leaves};
-ghost use Rattle.board.specs.Calls.{sampleSize, frameSize, measuringFrame, samplesCall};
+ghost use Rattle.board.specs.Calls.{sampleSize, measuringSize, measuringFrame, samplesCall};
 use call::Answer;
 use call::Ending;
 use call::ended;
@@ -18,13 +18,13 @@ use wire::buffer::put_in;
 // A reading of six channels, and its measuring frame.
 const SAMPLE_SIZE: usize = 24;
 
-const FRAME_SIZE: usize = 28;
+const MEASURING_SIZE: usize = 28;
 
-const FRAME_COUNT: u32 = FRAME_SIZE as u32;
+const FRAME_COUNT: u32 = MEASURING_SIZE as u32;
 
 // A measuring frame at the start of the output.
 fn put_measuring_frame(out: &mut [u8], sample: &[u8])
-    requires { ⌜ frameSize ≤ length (now out) ⌝ }
+    requires { ⌜ measuringSize ≤ length (now out) ⌝ }
     requires { ⌜ length (now sample) ≡ sampleSize ⌝ }
     ensures { λ _. ⌜ now (out .exit) ≡ put (now (out .entry)) 0 (measuringFrame channels (now (sample .entry))) ⌝ }
 {
@@ -72,7 +72,7 @@ pub extern "C" fn board_samples(rec: &mut [u8], sample: &[u8], out: &mut [u8]) -
     if sample.len() != SAMPLE_SIZE {
         return ended(Ending::BadLength);
     }
-    if out.len() < FRAME_SIZE {
+    if out.len() < MEASURING_SIZE {
         return ended(Ending::NoRoom);
     }
     if !finite_sample(sample) {

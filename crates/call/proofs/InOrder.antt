@@ -7,7 +7,7 @@ use mathlib.Core.List.{List, [], _∷_}
 use Rattle.call.specs.declared.Ending.{Ending}
 use Rattle.call.specs.declared.Answer.{Answer}
 use Rattle.call.specs.Outcome.{resultOf, Outcome, refused, Cause, inOrder, Leaves, Allows}
-use Rattle.call.specs.Ending.{Reason, NoReason, Refuses, Ends}
+use Rattle.call.specs.Reasons.{Reason, NoReason, Refuses, Ends}
 
 -- ---- an outcome left
 

@@ -30,12 +30,12 @@ pub record Outcome : Type 0 where
   pub output : List ℕ
 
 -- an ending with zero counts
-abbrev pub zeroes : Ending → Answer
-zeroes why = record { result = resultOf why; written = 0; skipped = 0 }
+abbrev pub noCounts : Ending → Answer
+noCounts why = record { result = resultOf why; written = 0; skipped = 0 }
 
 -- "A refusal returns its number and zero counts, and writes to no buffer."; the input is lent for reading only
 abbrev pub refused : Ending → List ℕ → List ℕ → Outcome
-refused why s o = record { answer = zeroes why; kept = s; output = o }
+refused why s o = record { answer = noCounts why; kept = s; output = o }
 
 -- "0 done; counts are bytes written and bytes skipped ..; output behind the written bytes is unchanged"
 abbrev pub done : Record → List ℕ → ℕ → List ℕ → Outcome

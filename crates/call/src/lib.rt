@@ -1,6 +1,6 @@
 // How a call ends, and what it returns.
 ghost use mathlib.Core.Path.{_≡_};
-ghost use Rattle.call.specs.Outcome.{zeroes};
+ghost use Rattle.call.specs.Outcome.{noCounts};
 
 pub enum Ending {
     Done,
@@ -20,7 +20,7 @@ pub struct Answer {
 
 // An ending with zero counts.
 pub fn ended(why: Ending) -> Answer
-    ensures { λ a. ⌜ a ≡ zeroes why ⌝ }
+    ensures { λ a. ⌜ a ≡ noCounts why ⌝ }
 {
     let result = match why {
         Ending::Done => 0,

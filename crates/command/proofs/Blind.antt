@@ -6,7 +6,7 @@ use native.Mathlib.Nat.{le-refl}
 use native.Mathlib.Omega.{arith}
 use Rattle.record.specs.Record.{Record, withCode}
 use Rattle.command.specs.declared.Command.the-variants.{Open, Close, ReadPower, SetPower, ReadStep, SetStep, ReadMode, SetMode, ReadName, SetName, ReadOnOff, SetOnOff, SetInput, ReadInput, SwitchOutput, SetInterval, ReadInterval, Unlock, ReadLock, ReadModel, SetModel, StopSending, StartSending, ReadFilter, SetFilter, ReadPair}
-use Rattle.command.specs.declared.Refusal.the-variants.{Unknown, Unbuilt, Parameters, NoAccess, BadCode, TooBig, TooSmall}
+use Rattle.command.specs.declared.Refusal.the-variants.{Unknown, Unbuilt, Miscounted, NoAccess, BadCode, TooBig, TooSmall}
 use Rattle.command.specs.declared.Verdict.{Verdict}
 use Rattle.command.specs.declared.Verdict.the-variants.{Do, Refuse}
 use Rattle.command.specs.Effects.{effectOf, dataOf}
@@ -48,7 +48,7 @@ module _ (r : Record) (k head : ℕ) (p : List ℕ) where
   blind (Do ReadPair) = (refl, refl, refl, le-refl (r .tries))
   blind (Refuse Unknown) = (refl, refl, refl, le-refl (r .tries))
   blind (Refuse Unbuilt) = (refl, refl, refl, le-refl (r .tries))
-  blind (Refuse Parameters) = (refl, refl, refl, le-refl (r .tries))
+  blind (Refuse Miscounted) = (refl, refl, refl, le-refl (r .tries))
   blind (Refuse NoAccess) = (refl, refl, refl, le-refl (r .tries))
   blind (Refuse BadCode) = (refl, refl, refl, omega arith)
   blind (Refuse TooBig) = (refl, refl, refl, le-refl (r .tries))

@@ -26,7 +26,7 @@ use Rattle.command.specs.declared.Need.{Need}
 use Rattle.command.specs.declared.Need.the-variants.{Nothing, Opened, Closed, Unlocked, Code}
 use Rattle.command.specs.declared.Access.the-variants.{WrongCode}
 use Rattle.command.specs.declared.Refusal.{Refusal}
-use Rattle.command.specs.declared.Refusal.the-variants.{Unknown, Unbuilt, Parameters, NoAccess, BadCode, TooBig, TooSmall}
+use Rattle.command.specs.declared.Refusal.the-variants.{Unknown, Unbuilt, Miscounted, NoAccess, BadCode, TooBig, TooSmall}
 use Rattle.command.specs.declared.Verdict.{Verdict}
 use Rattle.command.specs.declared.Verdict.the-variants.{Do, Refuse}
 use Rattle.command.specs.Tables.{spanOf, countedOf, countedBy, needOf, rangeOf, inputChannel}
@@ -127,7 +127,7 @@ pub left-in : (why : Refusal) (r : Record) (head number : ℕ) (p : List ℕ) �
 unfolding leftBy
 left-in Unknown r head number p h i = i
 left-in Unbuilt r head number p h i = i
-left-in Parameters r head number p h i = i
+left-in Miscounted r head number p h i = i
 left-in NoAccess r head number p h i = i
 left-in BadCode r head number p h i =
     let up : r .tries + 1 ≤ 3 = omega (arith, wrong-code (needOf (h .0)) r p (h .3) .1) in

@@ -16,7 +16,7 @@ use Rattle.command.specs.declared.Counted.the-variants.{Right, Wrong}
 use Rattle.command.specs.declared.Access.{Access}
 use Rattle.command.specs.declared.Access.the-variants.{Given, Missing, WrongCode}
 use Rattle.command.specs.declared.Refusal.{Refusal}
-use Rattle.command.specs.declared.Refusal.the-variants.{Unknown, Unbuilt, Parameters, NoAccess, BadCode, TooBig, TooSmall}
+use Rattle.command.specs.declared.Refusal.the-variants.{Unknown, Unbuilt, Miscounted, NoAccess, BadCode, TooBig, TooSmall}
 use Rattle.command.specs.declared.Verdict.{Verdict}
 use Rattle.command.specs.declared.Verdict.the-variants.{Do, Refuse}
 use Rattle.command.specs.Tables.{listedOf, countedOf, needOf, rangeOf}
@@ -50,7 +50,7 @@ module _ (r : Record) (head number : ℕ) (p : List ℕ) where
   Checks (Do c) = (listedOf head number ≡ Built c) × (countedOf c (length p) ≡ Right) × (accessOf (needOf c) r p ≡ Given) × (rangeOf c p ≡ Fits)
   Checks (Refuse Unknown) = listedOf head number ≡ Unlisted
   Checks (Refuse Unbuilt) = listedOf head number ≡ NotBuilt
-  Checks (Refuse Parameters) = (c : Command) × (listedOf head number ≡ Built c) × (countedOf c (length p) ≡ Wrong)
+  Checks (Refuse Miscounted) = (c : Command) × (listedOf head number ≡ Built c) × (countedOf c (length p) ≡ Wrong)
   Checks (Refuse NoAccess) = (c : Command) × (listedOf head number ≡ Built c) × (countedOf c (length p) ≡ Right) × (accessOf (needOf c) r p ≡ Missing)
   Checks (Refuse BadCode) = (c : Command) × (listedOf head number ≡ Built c) × (countedOf c (length p) ≡ Right) × (accessOf (needOf c) r p ≡ WrongCode)
   Checks (Refuse TooBig) = (c : Command) × (listedOf head number ≡ Built c) × (countedOf c (length p) ≡ Right) × (accessOf (needOf c) r p ≡ Given) × (rangeOf c p ≡ Big)

@@ -18,7 +18,7 @@ use Rattle.command.specs.declared.Need.the-variants.{Nothing, Opened, Cl
 use Rattle.command.specs.declared.Access.{Access}
 use Rattle.command.specs.declared.Access.the-variants.{Given, Missing, WrongCode}
 use Rattle.command.specs.declared.Refusal.{Refusal}
-use Rattle.command.specs.declared.Refusal.the-variants.{Unknown, Unbuilt, Parameters, NoAccess, BadCode, TooBig, TooSmall}
+use Rattle.command.specs.declared.Refusal.the-variants.{Unknown, Unbuilt, Miscounted, NoAccess, BadCode, TooBig, TooSmall}
 use Rattle.command.specs.declared.Verdict.{Verdict}
 use Rattle.command.specs.declared.Verdict.the-variants.{Do, Refuse}
 use Rattle.command.specs.Tables.{listedOf, spanOf, countedOf, needOf, rangeOf}
@@ -27,7 +27,7 @@ use Rattle.command.specs.Tables.{listedOf, spanOf, countedOf, needOf, ra
 abbrev pub statusOf : Refusal → ℕ
 statusOf Unknown = 0x40
 statusOf Unbuilt = 0x41
-statusOf Parameters = 0x5B
+statusOf Miscounted = 0x5B
 statusOf NoAccess = 0x62
 statusOf BadCode = 0x62
 statusOf TooBig = 0x54
@@ -60,7 +60,7 @@ byNumber (Built c) next = next c
 
 -- "5B wrong number of parameters"
 abbrev pub byCount : Counted → Verdict → Verdict
-byCount Wrong next = Refuse Parameters
+byCount Wrong next = Refuse Miscounted
 byCount Right next = next
 
 -- "62 access"

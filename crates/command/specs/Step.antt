@@ -7,7 +7,7 @@ use Rattle.wire.specs.Replies.{Reply, kindOf}
 use Rattle.wire.specs.Run.{Run}
 use Rattle.record.specs.Record.{Record, withTries}
 use Rattle.command.specs.declared.Refusal.{Refusal}
-use Rattle.command.specs.declared.Refusal.the-variants.{Unknown, Unbuilt, Parameters, NoAccess, BadCode, TooBig, TooSmall}
+use Rattle.command.specs.declared.Refusal.the-variants.{Unknown, Unbuilt, Miscounted, NoAccess, BadCode, TooBig, TooSmall}
 use Rattle.command.specs.declared.Verdict.{Verdict}
 use Rattle.command.specs.declared.Verdict.the-variants.{Do, Refuse}
 use Rattle.command.specs.Effects.{effectOf, dataOf}
@@ -18,7 +18,7 @@ unfoldable pub leftBy : Refusal → Record → Record
 unfolding withTries
 leftBy Unknown r = r
 leftBy Unbuilt r = r
-leftBy Parameters r = r
+leftBy Miscounted r = r
 leftBy NoAccess r = r
 -- "19 with a wrong code (this adds one to the tries)"; "A wrong code while unlocked counts as a try and leaves the board unlocked."
 leftBy BadCode r = withTries r (r .tries + 1)

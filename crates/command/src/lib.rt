@@ -69,7 +69,7 @@ pub enum Access {
 pub enum Refusal {
     Unknown,
     Unbuilt,
-    Parameters,
+    Miscounted,
     NoAccess,
     BadCode,
     TooBig,

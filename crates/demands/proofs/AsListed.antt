@@ -10,7 +10,7 @@ use lib.Dec.{ltb, eqb}
 use borrow.Author.Tests.{lt-ltb, le-leb, lt-leb, eq-eqb, ne-eqb, eqb-true, ltb-true, ltb-false}
 use Rattle.wire.specs.Frames.{Whole, Broken, stop, cutFrom, cut}
 use Rattle.wire.specs.Serial.{serial, headOf, numberOf, paramsOf}
-use Rattle.wire.specs.Replies.{Reply, kindOf, replyBytes, written}
+use Rattle.wire.specs.Replies.{Reply, kindOf, replyBytes, repliesBytes}
 use Rattle.wire.specs.Run.{runs, hunt}
 use Rattle.wire.proofs.CutLaws.{cut-wait, cut-skip, cut-take, cut-tear}
 use Rattle.wire.proofs.SerialLaws.{look-lines}
@@ -22,7 +22,7 @@ use Rattle.record.specs.Layout.{channels}
 use Rattle.command.specs.declared.Command.{Command}
 use Rattle.command.specs.declared.Command.the-variants.{ReadPair}
 use Rattle.command.specs.declared.Refusal.{Refusal}
-use Rattle.command.specs.declared.Refusal.the-variants.{Unknown, Unbuilt, Parameters, NoAccess, BadCode, TooBig, TooSmall}
+use Rattle.command.specs.declared.Refusal.the-variants.{Unknown, Unbuilt, Miscounted, NoAccess, BadCode, TooBig, TooSmall}
 use Rattle.command.specs.declared.Verdict.{Verdict}
 use Rattle.command.specs.declared.Verdict.the-variants.{Do, Refuse}
 use Rattle.command.specs.Judge.{statusOf, byNumber, judged}
@@ -30,7 +30,7 @@ use Rattle.command.specs.Effects.{effectOf, dataOf}
 use Rattle.command.specs.Step.{stepOf, leftBy, settled, onPiece}
 use Rattle.command.proofs.Refused.{verdict-is, verdict, step-is, passed, takes-effect, refused-silent}
 use Rattle.hunt.specs.Hunt.{huntOf, recordAfter}
-use Rattle.demands.specs.AsListed.{number, Legal, AsListed, BeforeReading, announced, SixLines, InTurn, AnswersAsListed}
+use Rattle.demands.specs.AsListed.{number, Legal, FrameAsListed, BeforeReading, announced, SixLines, InTurn, AnswersAsListed}
 use Rattle.demands.proofs.FactoryLaws.{factory-done}
 use Rattle.demands.proofs.PowerOnLaws.{power-on-done}
 use Rattle.demands.proofs.BytesLaws.{bytes-done}
@@ -50,7 +50,7 @@ module _ (r : Record) (f : List ℕ) where
   no-zero : (why : Refusal) → statusOf why ≢ 0x00
   no-zero Unknown e = omega arith
   no-zero Unbuilt e = omega arith
-  no-zero Parameters e = omega arith
+  no-zero Miscounted e = omega arith
   no-zero NoAccess e = omega arith
   no-zero BadCode e = omega arith
   no-zero TooBig e = omega arith
@@ -60,7 +60,7 @@ module _ (r : Record) (f : List ℕ) where
   unfolding leftBy withTries
   tries-back Unknown = refl
   tries-back Unbuilt = refl
-  tries-back Parameters = refl
+  tries-back Miscounted = refl
   tries-back NoAccess = refl
   tries-back BadCode = refl
   tries-back TooBig = refl
@@ -74,14 +74,14 @@ module _ (r : Record) (f : List ℕ) where
   kept-by (Do c) e z = absurd (z (ap (λ q. q .reply .status) (stands (Do c) e)))
   kept-by (Refuse why) e z = rw (refused-silent r f why e .2) (tries-back why)
 
-  each-frame : AsListed r f
+  each-frame : FrameAsListed r f
   unfolding leftBy
   each-frame = record {
     exactly = (zero-legal (verdict r f) refl, λ h. rw (stands (Do (h .0)) (legal-done (h .0) (h .1))) refl);
     effect = λ c h. stands (Do c) (legal-done c h);
     unknown = λ n. refused Unknown (rw n refl);
     unbuilt = λ n. refused Unbuilt (rw n refl);
-    miscounted = λ c n p. refused Parameters (rw (n, p) refl);
+    miscounted = λ c n p. refused Miscounted (rw (n, p) refl);
     no-access = λ c n p a. refused NoAccess (rw (n, p, a) refl);
     wrong-code = λ c n p a. refused BadCode (rw (n, p, a) refl);
     too-big = λ c n p a g. refused TooBig (rw (n, p, a, g) refl);
@@ -132,7 +132,7 @@ module _ (l : List ℕ) where
 -- ---- its pieces
 
 in-turn : InTurn
-unfolding runs huntOf hunt recordAfter written replyBytes
+unfolding runs huntOf hunt recordAfter repliesBytes replyBytes
 in-turn = record {
   frame = λ r ps qs f. runs-append Record Reply serial onPiece r ps (Whole f ∷ qs);
   broken = λ r ps qs head. runs-append Record Reply serial onPiece r ps (Broken head ∷ qs) ∙ sym (runs-append Record Reply serial onPiece r ps qs);

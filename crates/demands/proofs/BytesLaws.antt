@@ -11,7 +11,7 @@ use Rattle.wire.specs.Sizes.{inputMost}
 use Rattle.wire.specs.Numbers.{Bytes}
 use Rattle.wire.specs.Frames.{cut}
 use Rattle.wire.specs.Serial.{serial}
-use Rattle.wire.specs.Replies.{Reply, written}
+use Rattle.wire.specs.Replies.{Reply, repliesBytes}
 use Rattle.wire.specs.Run.{runs, hunt}
 use Rattle.record.specs.Record.{Record, withCode, withPending}
 use Rattle.record.specs.Layout.{recordOf}
@@ -23,7 +23,7 @@ use Rattle.hunt.proofs.Kept.{hunt-in}
 use Rattle.hunt.proofs.Room.{room-enough}
 use Rattle.call.specs.declared.Ending.the-variants.{BadLength, NoRoom}
 use Rattle.call.specs.Outcome.{Outcome, cause, done}
-use Rattle.call.specs.Ending.{NoReason}
+use Rattle.call.specs.Reasons.{NoReason}
 use Rattle.call.proofs.InOrder.{None, SameCauses, none-left}
 use Rattle.board.specs.Calls.{bytesCauses, afterBytes, bytesCall}
 use Rattle.board.proofs.Unfolded.{bytes-by}
@@ -35,9 +35,9 @@ use Rattle.demands.proofs.QuietRun.{Agree, run-same, quiet-used, run-tr
 use Rattle.demands.proofs.Laws.{Laws, left-by}
 
 -- what waits is kept, and the code plays no part in it
-after-alike : (b q : Record) (said more : List Reply) (n : ℕ) (l o : List ℕ) → said ≡ more → Agree b q → Alike (done (withPending b l) (written said) n o) (done (withPending q l) (written more) n o)
+after-alike : (b q : Record) (said more : List Reply) (n : ℕ) (l o : List ℕ) → said ≡ more → Agree b q → Alike (done (withPending b l) (repliesBytes said) n o) (done (withPending q l) (repliesBytes more) n o)
 unfolding withPending withCode
-after-alike b q said more n l o e f = rw (← e, f) (done-alike (withPending b l) (q .code) (written said) n o)
+after-alike b q said more n l o e f = rw (← e, f) (done-alike (withPending b l) (q .code) (repliesBytes said) n o)
 
 stream-alike : (r q : Record) (l o : List ℕ) → Agree r q → QuietRun r q (cut serial l .pieces) → Alike (afterBytes (huntFrom r l) o) (afterBytes (huntFrom q l) o)
 unfolding hunt recordAfter
@@ -85,7 +85,7 @@ pub bytes-laws : Laws bytesEntry
 bytes-laws = record {
   causes = λ l s. bytesCauses s (l .input) (l .output);
   after = λ l s. recordAfter (huntOf (recordOf s) (l .input));
-  out = λ l s. written (huntOf (recordOf s) (l .input) .said);
+  out = λ l s. repliesBytes (huntOf (recordOf s) (l .input) .said);
   skips = λ l s. huntOf (recordOf s) (l .input) .skipped;
   chain = λ l s. bytes-by s (l .input) (l .output);
   decides = λ l s. (

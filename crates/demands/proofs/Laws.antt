@@ -14,7 +14,7 @@ use Rattle.record.proofs.Lens.{long, get-tries}
 use Rattle.record.proofs.RoundTrip.{well-formed}
 use Rattle.record.proofs.Whole.{bytes-bytes}
 use Rattle.call.specs.Outcome.{Outcome, done, Cause, inOrder}
-use Rattle.call.specs.Ending.{NoReason, Ends}
+use Rattle.call.specs.Reasons.{NoReason, Ends}
 use Rattle.call.proofs.InOrder.{None, SameCauses, DecidesAll, in-order, in-order-both, ends, none-left, no-reason}
 use Rattle.demands.specs.Premise.{SameButCode, Alike}
 use Rattle.demands.specs.CallList.{Malformed, Call}

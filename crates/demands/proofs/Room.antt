@@ -8,7 +8,7 @@ use Rattle.record.specs.Layout.{recordOf}
 use Rattle.record.proofs.RoundTrip.{in-range}
 use Rattle.hunt.specs.Hunt.{roomFor}
 use Rattle.hunt.proofs.Room.{room-enough, most-room}
-use Rattle.call.specs.Ending.{NoReason}
+use Rattle.call.specs.Reasons.{NoReason}
 use Rattle.board.specs.Calls.{bytesCall}
 use Rattle.board.proofs.Empty.{empty-input, idle-room}
 use Rattle.demands.specs.CallList.{BytesIn, bytesReasons}

@@ -13,8 +13,8 @@ use Rattle.record.specs.Reading.{readingOf}
 use Rattle.record.proofs.RoundTrip.{in-range}
 use Rattle.record.proofs.Reading.{reading-in}
 use Rattle.call.specs.declared.Ending.the-variants.{BadLength, NoRoom, NotFinite}
-use Rattle.call.specs.Ending.{NoReason}
-use Rattle.board.specs.Calls.{sampleSize, frameSize, measuringFrame, afterSample, samplesCauses, samplesCall}
+use Rattle.call.specs.Reasons.{NoReason}
+use Rattle.board.specs.Calls.{sampleSize, measuringSize, measuringFrame, afterSample, samplesCauses, samplesCall}
 use Rattle.board.proofs.Unfolded.{samples-by}
 use Rattle.demands.specs.Premise.{Alike}
 use Rattle.demands.specs.CallList.{samplesReasons, samplesEntry}
@@ -26,7 +26,7 @@ use Rattle.demands.proofs.Laws.{Laws, left-by}
 abbrev sent : Record → List ℕ → List ℕ
 sent r sample = cond (r .flags .sending) (measuringFrame channels sample) []
 
-short : (t : Bool) (sample o : List ℕ) → frameSize ≤ length o → length (cond t (measuringFrame channels sample) []) ≤ length o
+short : (t : Bool) (sample o : List ℕ) → measuringSize ≤ length o → length (cond t (measuringFrame channels sample) []) ≤ length o
 short true sample o h = h
 short false sample o h = omega arith
 
@@ -47,11 +47,11 @@ samples-laws = record {
   chain = λ l s. samples-by s (l .input) (l .output);
   decides = λ l s. (
     malformed s,
-    (other BadLength (λ e. omega arith) (length (l .input)) sampleSize, (below NoRoom (λ e. omega arith) (length (l .output)) frameSize, (stray NotFinite (λ e. omega arith) (l .input), tt))),
+    (other BadLength (λ e. omega arith) (length (l .input)) sampleSize, (below NoRoom (λ e. omega arith) (length (l .output)) measuringSize, (stray NotFinite (λ e. omega arith) (l .input), tt))),
   );
   size = λ l s n. well-size s (formed s (n .0));
   keeps = λ l s b g n. reading-in (recordOf s) (l .input) g (in-range s b (formed s (n .0))) (not-false (allFinite channels (l .input) 0) (n .1 .1 .1 .0));
-  room = λ l s b g n. short (recordOf s .flags .sending) (l .input) (l .output) (ltb-false (length (l .output)) frameSize (n .1 .1 .0));
+  room = λ l s b g n. short (recordOf s .flags .sending) (l .input) (l .output) (ltb-false (length (l .output)) measuringSize (n .1 .1 .0));
   same = λ l s t bs bt same. (same-form s t bs bt same, λ h. (refl, λ i. (refl, λ j. (refl, λ k. tt))));
   alike = λ l s t bs bt same n h. rw (other-record s t bs bt same (formed s (n .0))) (read-alike (recordOf s) (code-of s t bs bt same (formed s (n .0))) (l .input) (l .output));
   quiet = λ l s t h. tt;

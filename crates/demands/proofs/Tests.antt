@@ -16,7 +16,7 @@ use Rattle.record.specs.Form.{wellFormed, formBy, formOf}
 use Rattle.call.specs.declared.Ending.{Ending}
 use Rattle.call.specs.declared.Ending.the-variants.{BadRecord}
 use Rattle.call.specs.Outcome.{resultOf, bad, cause}
-use Rattle.call.specs.Ending.{reason}
+use Rattle.call.specs.Reasons.{reason}
 use Rattle.call.proofs.InOrder.{Decides}
 use Rattle.demands.specs.CallList.{Malformed, Stray}
 

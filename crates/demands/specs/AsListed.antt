@@ -8,7 +8,7 @@ use lib.ListN.{length, getD, take, drop, replicate}
 use lib.Dec.{ltb, leb, eqb}
 use Rattle.wire.specs.Frames.{Piece, Whole, Broken, look, stop, skipOne, takeOne, tearOne, cut}
 use Rattle.wire.specs.Serial.{isHead, serial, sixLines, headOf, numberOf, paramsOf}
-use Rattle.wire.specs.Replies.{Reply, kindOf, written}
+use Rattle.wire.specs.Replies.{Reply, kindOf, repliesBytes}
 use Rattle.wire.specs.Run.{runs}
 use Rattle.wire.specs.declared.Range.{Range}
 use Rattle.wire.specs.declared.Range.the-variants.{Fits, Big, Small}
@@ -29,7 +29,7 @@ use Rattle.command.specs.Judge.{accessOf}
 use Rattle.command.specs.Effects.{effectOf, dataOf}
 use Rattle.command.specs.Step.{stepOf, onPiece}
 use Rattle.call.specs.Outcome.{done}
-use Rattle.call.specs.Ending.{NoReason}
+use Rattle.call.specs.Reasons.{NoReason}
 use Rattle.board.specs.Calls.{factoryCall, powerOnCall, bytesCall, afterSample, samplesCall}
 use Rattle.demands.specs.CallList.{Malformed, bytesReasons, samplesReasons}
 
@@ -57,7 +57,7 @@ module _ (r : Record) (f : List ℕ) where
   abbrev pub Gives : Record → ℕ → List ℕ → Type 0
   Gives after status body = stepOf r f ≡ record { after = after; reply = record { kind = kindOf (headOf f); status = status; body = body } }
 
-  pub record AsListed : Type 0 where
+  pub record FrameAsListed : Type 0 where
     -- A command is answered 00 exactly when number, parameter count, access and parameters are legal,
     pub exactly : (stepOf r f .reply .status ≡ 0x00) ↔ ((c : Command) × Legal c)
     -- and then the effect and the reply are the listed ones.
@@ -115,12 +115,12 @@ pub record InTurn : Type 0 where
   -- A broken head is passed in silence.
   pub broken : (r : Record) (ps qs : List Piece) (head : ℕ) → runs onPiece r (ps ++ Broken head ∷ qs) ≡ runs onPiece r (ps ++ qs)
   -- "Replies: AA, 5n or 6n (amplifier or BT121), status, n bytes, 85."
-  pub reply : (a : Reply) (said : List Reply) → written (a ∷ said) ≡ 0xAA ∷ (a .kind * 16 + length (a .body)) ∷ a .status ∷ (a .body ++ 0x85 ∷ []) ++ written said
+  pub reply : (a : Reply) (said : List Reply) → repliesBytes (a ∷ said) ≡ 0xAA ∷ (a .kind * 16 + length (a .body)) ∷ a .status ∷ (a .body ++ 0x85 ∷ []) ++ repliesBytes said
   -- A bytes call that nothing stops cuts pending bytes and input into pieces, answers them in turn, and counts what the cut skipped.
   pub call : (s input o : List ℕ) → NoReason (bytesReasons s input o)
       → let c = cut serial (recordOf s .pending ++ input) in
       let run = runs onPiece (recordOf s) (c .pieces) in
-      bytesCall s input o ≡ done (withPending (run .state) (c .waiting)) (written (run .said)) (c .skipped) o
+      bytesCall s input o ≡ done (withPending (run .state) (c .waiting)) (repliesBytes (run .said)) (c .skipped) o
 
 -- ---- the other three calls, when nothing stops them
 
@@ -134,7 +134,7 @@ pub record OtherCalls : Type 0 where
 
 -- The board answers as the tables say.
 pub record AnswersAsListed : Type 0 where
-  pub each-frame : (r : Record) (f : List ℕ) → AsListed r f
+  pub each-frame : (r : Record) (f : List ℕ) → FrameAsListed r f
   pub before-reading : BeforeReading
   -- What the hunt does at the front of a stream is the six lines: is the first byte AA, is there a second, is it a head, are 4 + n bytes present, is the last of them 85.
   pub looked : (l : List ℕ)

@@ -15,8 +15,8 @@ use Rattle.record.specs.Form.{wellFormed}
 use Rattle.hunt.specs.Hunt.{roomFor}
 use Rattle.call.specs.declared.Ending.the-variants.{BadRecord, BadLength, NoRoom, NotFinite}
 use Rattle.call.specs.Outcome.{Outcome}
-use Rattle.call.specs.Ending.{Reason, reason}
-use Rattle.board.specs.Calls.{factoryCall, powerOnCall, bytesCall, sampleSize, frameSize, samplesCall}
+use Rattle.call.specs.Reasons.{Reason, reason}
+use Rattle.board.specs.Calls.{factoryCall, powerOnCall, bytesCall, sampleSize, measuringSize, samplesCall}
 use Rattle.demands.specs.Premise.{QuietRun}
 
 pub record Call : Type 1 where
@@ -98,7 +98,7 @@ bytesEntry =
     (λ l s t. bytesCall s (l .input) (l .output) .answer .result ≡ 0 → QuietRun (recordOf s) (recordOf t) (cut serial (recordOf s .pending ++ l .input) .pieces))
 
 abbrev pub samplesReasons : List ℕ → List ℕ → List ℕ → List Reason
-samplesReasons s sample o = reason (Malformed s) BadRecord ∷ reason (length sample ≢ sampleSize) BadLength ∷ reason (length o < frameSize) NoRoom ∷ reason (Stray sample) NotFinite ∷ []
+samplesReasons s sample o = reason (Malformed s) BadRecord ∷ reason (length sample ≢ sampleSize) BadLength ∷ reason (length o < measuringSize) NoRoom ∷ reason (Stray sample) NotFinite ∷ []
 
 abbrev pub samplesEntry : Call
 samplesEntry = buffered samplesReasons samplesCall (λ l s t. Unit {0})

@@ -5,7 +5,7 @@ use mathlib.Core.List.{List}
 use lib.ListN.{length}
 use Rattle.wire.specs.Numbers.{Bytes}
 use Rattle.call.specs.Outcome.{Outcome}
-use Rattle.call.specs.Ending.{Ends}
+use Rattle.call.specs.Reasons.{Ends}
 use Rattle.demands.specs.CallList.{Malformed, Made, callOf, outcomeOf}
 
 -- Whatever a call answers, the buffers are as long as they were; when it is done, the record is well formed (when it refuses, it is as it was: `ends`).

@@ -8,8 +8,8 @@ use Rattle.wire.specs.Numbers.{Bytes}
 use Rattle.record.specs.Layout.{recordOf}
 use Rattle.hunt.specs.Hunt.{roomFor}
 use Rattle.call.specs.declared.Ending.the-variants.{Done}
-use Rattle.call.specs.Outcome.{zeroes}
-use Rattle.call.specs.Ending.{NoReason}
+use Rattle.call.specs.Outcome.{noCounts}
+use Rattle.call.specs.Reasons.{NoReason}
 use Rattle.board.specs.Calls.{bytesCall}
 use Rattle.demands.specs.CallList.{bytesReasons}
 
@@ -20,4 +20,4 @@ pub record Room : Type 0 where
   pub enough : (s input o : List ℕ) → Bytes s → Bytes input → bytesCall s input o .answer .result ≡ 0 → bytesCall s input o .answer .written ≤ roomFor (length (recordOf s .pending) + length input)
   -- "An empty input that passes these checks (76 bytes of room with 18 pending) is done with zero counts.": record and output stay as they were
   pub idle-room : roomFor waitMost ≡ 76
-  pub idle : (s o : List ℕ) → Bytes s → NoReason (bytesReasons s [] o) → bytesCall s [] o ≡ record { answer = zeroes Done; kept = s; output = o }
+  pub idle : (s o : List ℕ) → Bytes s → NoReason (bytesReasons s [] o) → bytesCall s [] o ≡ record { answer = noCounts Done; kept = s; output = o }

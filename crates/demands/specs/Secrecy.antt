@@ -63,8 +63,8 @@ theirs = bytesOf (withCode factory 0x01020304)
 abbrev pub thirdCode : List ℕ
 thirdCode = 0xAA ∷ 0x94 ∷ 0x19 ∷ 0x11 ∷ 0x22 ∷ 0x33 ∷ 0x44 ∷ 0x85 ∷ []
 
-abbrev pub room : List ℕ
-room = replicate 38 0x00
+abbrev pub enough : List ℕ
+enough = replicate 38 0x00
 
 -- a reading of six zeros, and room for its measuring frame
 abbrev pub sixZeros : List ℕ
@@ -75,14 +75,14 @@ frameRoom = replicate 28 0x00
 
 -- the command sent, then the reading
 abbrev pub harmless : List Made
-harmless = record { name = BytesIn; lent = record { input = thirdCode; output = room } } ∷ record { name = SamplesIn; lent = record { input = sixZeros; output = frameRoom } } ∷ []
+harmless = record { name = BytesIn; lent = record { input = thirdCode; output = enough } } ∷ record { name = SamplesIn; lent = record { input = sixZeros; output = frameRoom } } ∷ []
 
 -- The boards have different codes, both calls are done, the command is compared, the premise holds, and neither of the two calls gives new tries.
 pub record PremiseMet : Type 0 where
   pub pair : SameButCode ours theirs
   pub differ : ours ≢ theirs
-  pub done : bytesCall ours thirdCode room .answer .result ≡ 0
-  pub read : samplesCall (bytesCall ours thirdCode room .kept) sixZeros frameRoom .answer .result ≡ 0
+  pub done : bytesCall ours thirdCode enough .answer .result ≡ 0
+  pub read : samplesCall (bytesCall ours thirdCode enough .kept) sixZeros frameRoom .answer .result ≡ 0
   pub compared : compares (recordOf ours) thirdCode ≡ true
   pub of-bytes : AllOfBytes harmless
   pub quiet : AllQuiet ours theirs harmless
@@ -90,4 +90,4 @@ pub record PremiseMet : Type 0 where
 
 -- The code of one of them tells them apart.
 abbrev pub PremiseNeeded : Type 0
-PremiseNeeded = bytesCall ours rightCode room .output ≢ bytesCall theirs rightCode room .output
+PremiseNeeded = bytesCall ours rightCode enough .output ≢ bytesCall theirs rightCode enough .output

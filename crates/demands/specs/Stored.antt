@@ -8,7 +8,7 @@ use Rattle.wire.specs.Numbers.{Bytes, bytesAt}
 use Rattle.record.specs.Record.{Record}
 use Rattle.record.specs.Layout.{Part, has, current, width, place, recordSize, partBytes, bytesOf, recordOf}
 use Rattle.record.specs.Form.{wellFormed, InRange}
-use Rattle.record.specs.Places.{rowsOf, board1}
+use Rattle.record.specs.Places.{rowsOf, table1}
 
 pub record Stored : Type 0 where
   -- A record in range is stored and read without loss.
@@ -18,6 +18,6 @@ pub record Stored : Type 0 where
   -- "123 bytes (*house*)"
   pub size : recordSize ≡ 123
   -- Places and sizes are those of the table,
-  pub places : rowsOf current ≡ board1
+  pub places : rowsOf current ≡ table1
   -- and there stand the bytes of the part.
   pub stands : (r : Record) (q : Part) → has (current .parts) q ≡ true → bytesAt (width current q) (bytesOf r) (place current q) ≡ partBytes current r q

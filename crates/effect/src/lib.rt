@@ -74,7 +74,7 @@ pub fn refuse_on(rec: &mut [u8], why: Refusal)
     match why {
         Refusal::Unknown => {}
         Refusal::Unbuilt => {}
-        Refusal::Parameters => {}
+        Refusal::Miscounted => {}
         Refusal::NoAccess => {}
         Refusal::BadCode => count_try(rec),
         Refusal::TooBig => {}

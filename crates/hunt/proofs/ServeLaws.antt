@@ -11,7 +11,7 @@ use Rattle.wire.specs.Sizes.{frameMost, waitMost}
 use Rattle.wire.specs.Numbers.{put}
 use Rattle.wire.specs.Frames.{Heads, look, Wait, cut}
 use Rattle.wire.specs.Serial.{serial}
-use Rattle.wire.specs.Replies.{Reply, written}
+use Rattle.wire.specs.Replies.{Reply, repliesBytes}
 use Rattle.wire.specs.Run.{Hunted, hunt, halt, ahead, Along}
 use Rattle.wire.proofs.CutLaws.{wait-short}
 use Rattle.wire.proofs.SerialLaws.{Huntable, waiting-short}
@@ -32,9 +32,9 @@ use Rattle.hunt.specs.declared.Counts.{Counts}
 -- what such a call leaves, by the heads and its whole stream
 pub record ServesFor (heads : Heads) (r : Record) (l before : List ℕ) (t : Counts) (kept out : List ℕ) : Type 0 where
   pub record-is : kept ≡ bytesOf (recordAfter (hunt heads onPiece r l))
-  pub written-is : t .written ≡ length (written (hunt heads onPiece r l .said))
+  pub written-is : t .written ≡ length (repliesBytes (hunt heads onPiece r l .said))
   pub skipped-is : t .skipped ≡ hunt heads onPiece r l .skipped
-  pub bytes : out ≡ put before 0 (written (hunt heads onPiece r l .said))
+  pub bytes : out ≡ put before 0 (repliesBytes (hunt heads onPiece r l .said))
 
 -- the board's own call
 pub serves-board : (r : Record) (input before : List ℕ) (t : Counts) (kept out : List ℕ) → ServesFor serial r (r .pending ++ input) before t kept out → Serves r input before t kept out
@@ -87,7 +87,7 @@ module _ (p i : List ℕ) (n : ℕ) (n-is : n ≡ length i - (length i - frameMo
 module _ (heads : Heads) (r : Record) (p input before : List ℕ) where
   serves-said : (b : Record) (said : List Reply) (k wrote : ℕ) (rest kept out : List ℕ)
       → hunt heads onPiece r (p ++ input) ≡ record { state = b; said = said; skipped = k; waiting = rest } → kept ≡ bytesOf (withPending b rest)
-      → wrote ≡ length (written said) → out ≡ put before 0 (written said) → ServesFor heads r (p ++ input) before (record { written = wrote; skipped = k }) kept out
+      → wrote ≡ length (repliesBytes said) → out ≡ put before 0 (repliesBytes said) → ServesFor heads r (p ++ input) before (record { written = wrote; skipped = k }) kept out
   serves-said b said k wrote rest kept out h e w o = record { record-is = rw (h, after-of) e; written-is = rw h w; skipped-is = rw h refl; bytes = rw h o }
 
   module _ (n : ℕ) (n-is : n ≡ length input - (length input - frameMost)) (h : Progress) (kept out : List ℕ)
@@ -118,12 +118,12 @@ module _ (heads : Heads) (r : Record) (p input before : List ℕ) where
       pub rest-starts : h .at - length p ≤ length input
       rest-starts = omega (arith, f .going .sofar .along .within, joined-length p input n n-is)
 
-      said-fits : 0 + length (written (f .going .sofar .said)) ≤ length before
+      said-fits : 0 + length (repliesBytes (f .going .sofar .said)) ≤ length before
       said-fits = omega (arith, f .going .sofar .room, f .going .sofar .along .within, joined-length p input n n-is)
 
       pub rest-room : h .wrote + roomFor (length rest) ≤ length out
       rest-room =
-          let m : length out ≡ length before = ap length (f .going .sofar .bytes) ∙ length-put before 0 (written (f .going .sofar .said)) said-fits in
+          let m : length out ≡ length before = ap length (f .going .sofar .bytes) ∙ length-put before 0 (repliesBytes (f .going .sofar .said)) said-fits in
           omega (arith, f .going .sofar .room, f .going .sofar .wrote-is, rest-starts, length-drop (h .at - length p) input)
 
       module _ (x : Progress) (kept₂ out₂ : List ℕ) (y : Hunts heads (recordOf kept) rest out (length rest) (h .wrote) x kept₂ out₂) where
@@ -136,7 +136,7 @@ module _ (heads : Heads) (r : Record) (p input before : List ℕ) where
             let u = y .going in
             let said = g .sofar .said in
             let more = u .sofar .said in
-            let v : written (said ++ more) ≡ written said ++ written more = written-append said more in
+            let v : repliesBytes (said ++ more) ≡ repliesBytes said ++ repliesBytes more = written-append said more in
             let first : hunt heads onPiece r (p ++ input) ≡ ahead said (h .skipped) (hunt heads onPiece (g .board) rest) =
             goes-on p input n n-is heads ok r (g .board) (h .at) (h .skipped) said (g .sofar .along) past in
             let second : hunt heads onPiece (g .board) rest ≡ record { state = u .board; said = more; skipped = x .skipped; waiting = drop (x .at) rest } =
@@ -144,5 +144,5 @@ module _ (heads : Heads) (r : Record) (p input before : List ℕ) where
             ∙ along-end Record Reply heads onPiece (recordOf kept) rest (u .board) (x .at) (x .skipped) more (u .sofar .along) end-halts in
             serves-said (u .board) (said ++ more) (h .skipped + x .skipped) (x .wrote) (drop (x .at) rest) kept₃ out₂ (first ∙ rw second refl)
             (t (u .board) (u .held .fit) (u .held .same))
-            (u .sofar .wrote-is ∙ rw (v, g .sofar .wrote-is, zero-add) (sym (length-append (written said) (written more))))
-            (u .sofar .bytes ∙ rw (v, g .sofar .wrote-is, g .sofar .bytes) (put-put before 0 (written said) (written more) said-fits))
+            (u .sofar .wrote-is ∙ rw (v, g .sofar .wrote-is, zero-add) (sym (length-append (repliesBytes said) (repliesBytes more))))
+            (u .sofar .bytes ∙ rw (v, g .sofar .wrote-is, g .sofar .bytes) (put-put before 0 (repliesBytes said) (repliesBytes more) said-fits))

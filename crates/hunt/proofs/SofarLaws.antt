@@ -7,7 +7,7 @@ use native.Mathlib.Omega.{arith}
 use lib.ListN.{length, take, drop, length-append, length-drop}
 use Rattle.wire.specs.Sizes.{frameMost}
 use Rattle.wire.specs.Frames.{Heads, look, Take, Tear, Passed}
-use Rattle.wire.specs.Replies.{Reply, replyBytes, written}
+use Rattle.wire.specs.Replies.{Reply, replyBytes, repliesBytes}
 use Rattle.wire.specs.Run.{Along}
 use Rattle.wire.proofs.CutLaws.{take-room}
 use Rattle.wire.proofs.PutLaws.{put-nil, put-put, length-put}
@@ -21,7 +21,7 @@ use Rattle.hunt.specs.Progress.{Sofar}
 
 module _ (heads : Heads) (r : Record) (l before : List ℕ) (start : ℕ) where
   pub sofar-start : Sofar heads r l before start r 0 0 start before
-  unfolding written
+  unfolding repliesBytes
   sofar-start = record { said = []; along = along-start Record Reply heads onPiece r l; room = omega arith; wrote-is = sym (add-zero start); bytes = sym (put-nil before start) }
 
   module _ (b : Record) (at skipped wrote : ℕ) (out : List ℕ) (f : Sofar heads r l before start b at skipped wrote out) where
@@ -39,7 +39,7 @@ module _ (heads : Heads) (r : Record) (l before : List ℕ) (start : ℕ) where
 
     module _ (room : start + roomFor (length l) ≤ length before) where
       pub sofar-long : length out ≡ length before
-      sofar-long = ap length (f .bytes) ∙ length-put before start (written (f .said)) (omega (arith, f .room, f .along .within))
+      sofar-long = ap length (f .bytes) ∙ length-put before start (repliesBytes (f .said)) (omega (arith, f .room, f .along .within))
 
       -- the reply to a frame fits into what is left of the output
       pub sofar-room : (n : ℕ) → look heads (drop at l) ≡ Take n → wrote + frameMost ≤ length out
@@ -52,9 +52,9 @@ module _ (heads : Heads) (r : Record) (l before : List ℕ) (start : ℕ) where
       sofar-take n e end kept out′ c =
           let a = stepOf b (take (4 + n) (drop at l)) in
           let x : List ℕ = replyBytes (a .reply) in
-          let w : List ℕ = written (f .said) in
+          let w : List ℕ = repliesBytes (f .said) in
           let k : start + length w ≤ length before = omega (arith, f .room, f .along .within) in
-          let m : written (f .said ++ a .reply ∷ []) ≡ w ++ x = written-append (f .said) (a .reply ∷ []) ∙ rw (written-one (a .reply)) refl in
+          let m : repliesBytes (f .said ++ a .reply ∷ []) ≡ w ++ x = written-append (f .said) (a .reply ∷ []) ∙ rw (written-one (a .reply)) refl in
           let v : length (w ++ x) ≡ length w + length x = length-append w x in
           record {
             said = f .said ++ a .reply ∷ [];

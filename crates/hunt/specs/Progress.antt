@@ -7,7 +7,7 @@ use lib.ListN.{length, take, drop}
 use Rattle.wire.specs.Sizes.{frameMost}
 use Rattle.wire.specs.Numbers.{put}
 use Rattle.wire.specs.Frames.{Heads, look, Wait}
-use Rattle.wire.specs.Replies.{Reply, written}
+use Rattle.wire.specs.Replies.{Reply, repliesBytes}
 use Rattle.wire.specs.Run.{Along}
 use Rattle.record.specs.Record.{Record, withPending}
 use Rattle.record.specs.Layout.{bytesOf}
@@ -21,9 +21,9 @@ use Rattle.hunt.specs.declared.Counts.{Counts}
 pub record Sofar (heads : Heads) (r : Record) (l before : List ℕ) (start : ℕ) (b : Record) (at skipped wrote : ℕ) (out : List ℕ) : Type 0 where
   pub said : List Reply
   pub along : Along heads onPiece r l b at skipped said
-  pub room : length (written said) ≤ roomFor at
-  pub wrote-is : wrote ≡ start + length (written said)
-  pub bytes : out ≡ put before start (written said)
+  pub room : length (repliesBytes said) ≤ roomFor at
+  pub wrote-is : wrote ≡ start + length (repliesBytes said)
+  pub bytes : out ≡ put before start (repliesBytes said)
 
 -- and the record's bytes those of the board
 pub record Going (heads : Heads) (r : Record) (l before : List ℕ) (start at skipped wrote : ℕ) (kept out : List ℕ) : Type 0 where
@@ -49,6 +49,6 @@ Joins pending input n head = (n ≡ length pending + (length input - (length inp
 -- what a bytes call that passed its checks leaves
 pub record Serves (r : Record) (input before : List ℕ) (t : Counts) (kept out : List ℕ) : Type 0 where
   pub record-is : kept ≡ bytesOf (recordAfter (huntOf r input))
-  pub written-is : t .written ≡ length (written (huntOf r input .said))
+  pub written-is : t .written ≡ length (repliesBytes (huntOf r input .said))
   pub skipped-is : t .skipped ≡ huntOf r input .skipped
-  pub bytes : out ≡ put before 0 (written (huntOf r input .said))
+  pub bytes : out ≡ put before 0 (repliesBytes (huntOf r input .said))

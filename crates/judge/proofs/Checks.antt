@@ -28,7 +28,7 @@ use Rattle.command.specs.declared.Need.the-variants.{Code}
 use Rattle.command.specs.declared.Access.{Access}
 use Rattle.command.specs.declared.Access.the-variants.{Given, Missing, WrongCode}
 use Rattle.command.specs.declared.Verdict.the-variants.{Do, Refuse}
-use Rattle.command.specs.declared.Refusal.the-variants.{Unknown, Unbuilt, Parameters, NoAccess, BadCode, TooBig, TooSmall}
+use Rattle.command.specs.declared.Refusal.the-variants.{Unknown, Unbuilt, Miscounted, NoAccess, BadCode, TooBig, TooSmall}
 use Rattle.command.specs.Tables.{listedOf, spanOf, countedOf, needOf, rangeOf}
 use Rattle.command.specs.Judge.{accessOf, verdictOf}
 use Rattle.judge.specs.Checks.{asks}
@@ -140,7 +140,7 @@ module _ (r : Record) (head number : ℕ) (p : List ℕ) where
   by-unknown Unlisted h k e = rw (verdict-is r head number p, e) refl
 
   module _ (c : Command) (l : listedOf head number ≡ Built c) where
-    pub by-count : countedOf c (length p) ≡ Wrong → Refuse Parameters ≡ verdictOf r head number p
+    pub by-count : countedOf c (length p) ≡ Wrong → Refuse Miscounted ≡ verdictOf r head number p
     by-count e = rw (verdict-is r head number p, l, e) refl
 
     module _ (n : countedOf c (length p) ≡ Right) where

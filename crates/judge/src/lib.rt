@@ -98,7 +98,7 @@ pub fn judge(rec: &[u8], head: u8, number: u8, p: &[u8]) -> Verdict
         };
     };
     let Counted::Right = check_count(c, p.len()) else {
-        return Verdict::Refuse(Refusal::Parameters);
+        return Verdict::Refuse(Refusal::Miscounted);
     };
     let access = check_access(need_of(c), rec, p);
     let Access::Given = access else {

@@ -16,8 +16,8 @@ abbrev pub rowsOf : Plan → List PlaceRow
 rowsOf p = each (λ q. row (place p q) (width p q) q) (p .parts)
 
 -- the board: 123 bytes
-abbrev pub board1 : List PlaceRow
-board1 =
+abbrev pub table1 : List PlaceRow
+table1 =
     row 0 2 SizeBytes
     ∷ row 2 1 VersionByte
     ∷ row 3 1 FlagByte
@@ -38,8 +38,8 @@ board1 =
     ∷ []
 
 -- the same with one waiting byte more: 124 bytes
-abbrev pub board2 : List PlaceRow
-board2 =
+abbrev pub table2 : List PlaceRow
+table2 =
     row 0 2 SizeBytes
     ∷ row 2 1 VersionByte
     ∷ row 3 1 FlagByte
@@ -60,8 +60,8 @@ board2 =
     ∷ []
 
 -- and with a counter: 126 bytes
-abbrev pub board3 : List PlaceRow
-board3 =
+abbrev pub table3 : List PlaceRow
+table3 =
     row 0 2 SizeBytes
     ∷ row 2 1 VersionByte
     ∷ row 3 1 FlagByte

@@ -155,7 +155,7 @@ pub fn status_of(why: Refusal) -> u8
     match why {
         Refusal::Unknown => 0x40,
         Refusal::Unbuilt => 0x41,
-        Refusal::Parameters => 0x5B,
+        Refusal::Miscounted => 0x5B,
         Refusal::NoAccess => 0x62,
         Refusal::BadCode => 0x62,
         Refusal::TooBig => 0x54,

@@ -10,7 +10,7 @@ use borrow.Author.Tests.{leb-true}
 use Rattle.wire.specs.Sizes.{frameMost}
 use Rattle.wire.specs.Numbers.{put}
 use Rattle.wire.specs.Serial.{isHead}
-use Rattle.wire.specs.Replies.{Reply, kindOf, replyBytes, around, written}
+use Rattle.wire.specs.Replies.{Reply, kindOf, replyBytes, around, repliesBytes}
 use Rattle.wire.proofs.PutLaws.{put-nil, put-byte, put-put, put-three, put-behind}
 
 pub length-reply : (a : Reply) → length (replyBytes a) ≡ 4 + length (a .body)
@@ -21,21 +21,21 @@ length-reply a = simp length-append (omega arith)
 pub reply-bounds : (a : Reply) → length (a .body) ≤ 15 → (4 ≤ length (replyBytes a)) × (length (replyBytes a) ≤ frameMost)
 reply-bounds a h = rw (length-reply a) (omega arith, omega arith)
 
-pub length-none : length (written []) ≡ 0
-unfolding written
+pub length-none : length (repliesBytes []) ≡ 0
+unfolding repliesBytes
 length-none = refl
 
-pub length-cons : (a : Reply) (said : List Reply) → length (written (a ∷ said)) ≡ length (replyBytes a) + length (written said)
-unfolding written
-length-cons a said = length-append (replyBytes a) (written said)
+pub length-cons : (a : Reply) (said : List Reply) → length (repliesBytes (a ∷ said)) ≡ length (replyBytes a) + length (repliesBytes said)
+unfolding repliesBytes
+length-cons a said = length-append (replyBytes a) (repliesBytes said)
 
-pub written-append : (said more : List Reply) → written (said ++ more) ≡ written said ++ written more
-unfolding written
+pub written-append : (said more : List Reply) → repliesBytes (said ++ more) ≡ repliesBytes said ++ repliesBytes more
+unfolding repliesBytes
 written-append [] more = refl
-written-append (a ∷ said) more = ap (λ (x : List ℕ). replyBytes a ++ x) (written-append said more) ∙ sym (append-assoc (replyBytes a) (written said) (written more))
+written-append (a ∷ said) more = ap (λ (x : List ℕ). replyBytes a ++ x) (written-append said more) ∙ sym (append-assoc (replyBytes a) (repliesBytes said) (repliesBytes more))
 
-pub written-one : (a : Reply) → written (a ∷ []) ≡ replyBytes a
-unfolding written
+pub written-one : (a : Reply) → repliesBytes (a ∷ []) ≡ replyBytes a
+unfolding repliesBytes
 written-one a = append-nil (replyBytes a)
 
 -- ---- one reply stored around its data

@@ -22,7 +22,7 @@ abbrev pub around : List ℕ → ℕ → ℕ → ℕ → ℕ → List ℕ
 around b at head status n = set (set (set (set b at 0xAA) (at + 1) (kindOf head * 16 + n)) (at + 2) status) (at + 3 + n) 0x85
 
 -- replies one behind the other
-unfoldable pub written : List Reply → List ℕ
+unfoldable pub repliesBytes : List Reply → List ℕ
 unfolding replyBytes
-written [] = []
-written (a ∷ said) = replyBytes a ++ written said
+repliesBytes [] = []
+repliesBytes (a ∷ said) = replyBytes a ++ repliesBytes said

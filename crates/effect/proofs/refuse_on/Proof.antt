@@ -6,7 +6,7 @@ use Rattle.record.specs.InPlace.{Turns}
 use Rattle.record.specs.Layout.{TriesByte, atTries}
 use Rattle.record.proofs.InPlaceLaws.{sound-at, here}
 use Rattle.command.specs.declared.Refusal.{Refusal}
-use Rattle.command.specs.declared.Refusal.the-variants.{Unknown, Unbuilt, Parameters, NoAccess, BadCode, TooBig, TooSmall}
+use Rattle.command.specs.declared.Refusal.the-variants.{Unknown, Unbuilt, Miscounted, NoAccess, BadCode, TooBig, TooSmall}
 use Rattle.command.specs.Step.{leftBy}
 use Rattle.effect.proofs.Turned.{left-as}
 use borrow.Author.Needs.{needs}
@@ -50,7 +50,7 @@ returns-2 c = turns (c .before .before) Unbuilt (c .enum-told2 .given .1) (λ r 
 
 returns-3 : tie.Need-returns-3
 unfolding leftBy
-returns-3 c = turns (c .before .before) Parameters (c .enum-told3 .given .1) (λ r i e. e)
+returns-3 c = turns (c .before .before) Miscounted (c .enum-told3 .given .1) (λ r i e. e)
 
 returns-4 : tie.Need-returns-4
 unfolding leftBy
