@@ -8,7 +8,6 @@ use borrow.Author.Tests.{lt-ltb, le-ltb}
 use Rattle.wire.specs.Sizes.{inputMost, streamMost}
 use Rattle.wire.specs.Numbers.{Bytes}
 use Rattle.wire.specs.Serial.{serial}
-use Rattle.wire.specs.Replies.{repliesBytes}
 use Rattle.wire.specs.Run.{hunt}
 use Rattle.wire.proofs.CutLaws.{conserved}
 use Rattle.wire.proofs.SerialLaws.{pending-short}
