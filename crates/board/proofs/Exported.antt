@@ -18,9 +18,6 @@ use Rattle.board.proofs.bytes.board_bytes.Kinds as bytes-kinds
 use Rattle.board.proofs.samples.board_samples.Reads as samples
 use Rattle.board.proofs.samples.board_samples.Kinds as samples-kinds
 
-left : {A : Type 0} (z x : Outcome) → A ≡ Allows z x → A → x ≡ z
-left z x e p = allowed-is z x (subst (λ B. B) e p)
-
 -- a contract over n lifetimes, the parameters ps and the result q; `outcome` is what the call is to leave, `seen` what its caller finds
 module _ {n : ℕ} (ps : List (PK n)) (q : RK n) where
   pub record Exported (pre : In n ps) (post : Out n ps q) (outcome : (κs : Lfts n) → Dens κs ps → Outcome) (seen : (κs : Lfts n) → resT q κs .Denot → AtExit (endedOf n ps q) κs → Outcome) : Type 1 where
@@ -31,22 +28,28 @@ module _ {n : ℕ} (ps : List (PK n)) (q : RK n) where
     -- So two ends that it allows for the same arguments are one outcome.
     pub one : (κs : Lfts n) (a : Dens κs ps) (r u : resT q κs .Denot) (s v : AtExit (endedOf n ps q) κs) → post κs a r s → post κs a u v → seen κs r s ≡ seen κs u v
 
-  exported : (pre : In n ps) (post : Out n ps q) (outcome : (κs : Lfts n) → Dens κs ps → Outcome) (seen : (κs : Lfts n) → resT q κs .Denot → AtExit (endedOf n ps q) κs → Outcome)
-      → ((κs : Lfts n) (a : Dens κs ps) → pre κs a)
-      → ((κs : Lfts n) (a : Dens κs ps) (r : resT q κs .Denot) (s : AtExit (endedOf n ps q) κs) → post κs a r s ≡ Allows (outcome κs a) (seen κs r s))
-      → Exported pre post outcome seen
-  exported pre post outcome seen asks says = record {
-    asks-nothing = asks;
-    says = says;
-    one = λ κs a r u s v p w. left (outcome κs a) (seen κs r s) (says κs a r s) p ∙ sym (left (outcome κs a) (seen κs u v) (says κs a u v) w);
-  }
-
 -- κs are lifetimes and play no part; a is what the call is lent, r its result, s the buffers when it ends. `.0`, `.1 .0` and `.1 .1 .0` are the first, second and third of them: record, input, output.
 pub record AllExported : Type 1 where
   pub factory : Exported factory-kinds.ps factory-kinds.r factory.Pre factory.Post (λ κs a. factoryCall (now (a .0))) (λ κs r s. record { answer = r; kept = now (s .0); output = [] })
   pub power-on : Exported power-on-kinds.ps power-on-kinds.r power-on.Pre power-on.Post (λ κs a. powerOnCall (now (a .0))) (λ κs r s. record { answer = r; kept = now (s .0); output = [] })
   pub bytes : Exported bytes-kinds.ps bytes-kinds.r bytes.Pre bytes.Post (λ κs a. bytesCall (now (a .0)) (now (a .1 .0)) (now (a .1 .1 .0))) (λ κs r s. record { answer = r; kept = now (s .0); output = now (s .1 .1 .0) })
   pub samples : Exported samples-kinds.ps samples-kinds.r samples.Pre samples.Post (λ κs a. samplesCall (now (a .0)) (now (a .1 .0)) (now (a .1 .1 .0))) (λ κs r s. record { answer = r; kept = now (s .0); output = now (s .1 .1 .0) })
+
+-- ---- the proof
+
+left : {A : Type 0} (z x : Outcome) → A ≡ Allows z x → A → x ≡ z
+left z x e p = allowed-is z x (subst (λ B. B) e p)
+
+module _ {n : ℕ} (ps : List (PK n)) (q : RK n) where
+  exported : (pre : In n ps) (post : Out n ps q) (outcome : (κs : Lfts n) → Dens κs ps → Outcome) (seen : (κs : Lfts n) → resT q κs .Denot → AtExit (endedOf n ps q) κs → Outcome)
+      → ((κs : Lfts n) (a : Dens κs ps) → pre κs a)
+      → ((κs : Lfts n) (a : Dens κs ps) (r : resT q κs .Denot) (s : AtExit (endedOf n ps q) κs) → post κs a r s ≡ Allows (outcome κs a) (seen κs r s))
+      → Exported ps q pre post outcome seen
+  exported pre post outcome seen asks says = record {
+    asks-nothing = asks;
+    says = says;
+    one = λ κs a r u s v p w. left (outcome κs a) (seen κs r s) (says κs a r s) p ∙ sym (left (outcome κs a) (seen κs u v) (says κs a u v) w);
+  }
 
 pub all-exported : AllExported
 all-exported = record {

@@ -33,7 +33,7 @@ unlocking p (Built c) = isRight (countedOf c (length p)) && isCode (needOf c)
 unlocking p NotBuilt = false
 unlocking p Unlisted = false
 
--- a rightly built unlock command that comes while configuration mode is closed and fewer than three wrong tries are used
+-- Wrong is "Comparing the code when three tries are used, or while configuration mode is open.": a rightly built unlock command that comes while configuration mode is closed and fewer than three wrong tries are used
 unfoldable pub compares : Record → List ℕ → Bool
 unfolding listedOf countedOf needOf
 compares r f = unlocking (paramsOf f) (listedOf (headOf f) (numberOf f)) && not (r .flags .opened) && ltb (r .tries) 3

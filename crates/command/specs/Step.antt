@@ -30,7 +30,7 @@ pub record Step : Type 0 where
   pub after : Record
   pub reply : Reply
 
--- "A refused command gets n = 0 and no data."
+-- "A refused command gets n = 0 and no data."; "000 says that an error reply has no data"
 abbrev pub settled : Record → ℕ → List ℕ → Verdict → Step
 settled r head p (Do c) = record { after = effectOf c r p; reply = record { kind = kindOf head; status = 0x00; body = dataOf c r p } }
 settled r head p (Refuse why) = record { after = leftBy why r; reply = record { kind = kindOf head; status = statusOf why; body = [] } }

@@ -32,7 +32,7 @@ row n c = record { number = n; listed = Built c }
 abbrev pub unbuilt : ℕ → CommandRow
 unbuilt n = record { number = n; listed = NotBuilt }
 
--- the table's column "no."; "Known but not built: EA, EC, EF."
+-- "Frames come from source document 000, BT121 commands from 003 and 004 (same content)."; the table's column "no."; "Known but not built: EA, EC, EF."
 abbrev pub bt121 : List CommandRow
 bt121 =
     row 0xE0 Open
@@ -57,7 +57,7 @@ bt121 =
     ∷ unbuilt 0xEF
     ∷ []
 
--- the table's column "no."; "Known but not built: 17, 18, 50, 54, 55."
+-- "Numbers are from 000 and 003; 1B and 1C follow its GSV-8 entry."; the table's column "no."; "Known but not built: 17, 18, 50, 54, 55."
 abbrev pub amplifier : List CommandRow
 amplifier =
     row 0x19 Unlock
@@ -93,7 +93,7 @@ pub record Span : Type 0 where
 abbrev pub exactly : ℕ → Span
 exactly n = record { least = n; most = n }
 
--- the table's column "parameters", as far as it counts them
+-- the table's column "parameters", as far as it counts them; "Where the command tables of 003 and its examples differ, the tables decide."
 unfoldable pub spanOf : Command → Span
 -- E0, E1: "none"
 spanOf Open = exactly 0

@@ -1,4 +1,4 @@
--- The worked examples that are proved: one table, and one statement over it.
+-- "The starred examples are one table under one statement": the worked examples that are proved.
 use Prim.Native.Nat.{ℕ}
 use mathlib.Core.Path.{_≡_}
 use mathlib.Core.Bool.{true, false}

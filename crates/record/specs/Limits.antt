@@ -10,7 +10,7 @@ use Rattle.wire.specs.Ranges.{within, also}
 use Rattle.wire.specs.declared.Range.{Range}
 use Rattle.wire.specs.declared.Range.the-variants.{Fits, Big, Small}
 
--- Classic power: "2 signed, -20..12"
+-- Classic power: "2 signed, -20..12"; wrong is "Reading power low byte first, or unsigned."
 abbrev pub powerRange : ℕ → Range
 powerRange w = within (negsuc 19) (pos 12) (signed16 w)
 

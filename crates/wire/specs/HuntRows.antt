@@ -9,7 +9,7 @@ pub record CutRow : Type 0 where
   pub stream : List ℕ
   pub becomes : Cut
 
--- a frame inside a broken one; a second AA that is a head; the SetName line of source 003
+-- Wrong is "Throwing away a whole failed frame instead of one byte.": a frame inside a broken one. "AA AA is a good head with n = 10.": a second AA that is a head. The SetName line of source 003: "16 bytes skipped".
 abbrev pub rows : List CutRow
 rows =
     record {
