@@ -15,10 +15,11 @@ use Rattle.wire.specs.Run.{runs, hunt}
 use Rattle.wire.proofs.CutLaws.{cut-wait, cut-skip, cut-take, cut-tear}
 use Rattle.wire.proofs.SerialLaws.{look-lines}
 use Rattle.wire.proofs.RunLaws.{runs-append}
+use Rattle.wire.proofs.PutLaws.{put-zero}
 use Rattle.peak.specs.Pairs.{Pair, noPair, pairFits, pairBytes}
 use Rattle.peak.proofs.PairLaws.{both}
 use Rattle.record.specs.Record.{Record, withTries}
-use Rattle.record.specs.Layout.{channels}
+use Rattle.record.specs.Layout.{channels, bytesOf}
 use Rattle.command.specs.declared.Command.{Command}
 use Rattle.command.specs.declared.Command.the-variants.{ReadPair}
 use Rattle.command.specs.declared.Refusal.{Refusal}
@@ -137,6 +138,7 @@ in-turn = record {
   frame = λ r ps qs f. runs-append Record Reply serial onPiece r ps (Whole f ∷ qs);
   broken = λ r ps qs head. runs-append Record Reply serial onPiece r ps (Broken head ∷ qs) ∙ sym (runs-append Record Reply serial onPiece r ps qs);
   reply = λ a said. refl;
+  left = λ r out skipped o. ap (λ (l : List ℕ). record { answer = record { result = 0; written = length out; skipped = skipped }; kept = bytesOf r; output = l }) (put-zero o out);
   call = bytes-done;
 }
 

@@ -13,7 +13,7 @@ use Rattle.wire.specs.Run.{runs}
 use Rattle.wire.specs.declared.Range.{Range}
 use Rattle.wire.specs.declared.Range.the-variants.{Fits, Big, Small}
 use Rattle.record.specs.Record.{Record, withTries, withPending}
-use Rattle.record.specs.Layout.{recordSize, recordOf}
+use Rattle.record.specs.Layout.{recordSize, bytesOf, recordOf}
 use Rattle.record.specs.Form.{InRange}
 use Rattle.record.specs.Births.{factory, poweredOn}
 use Rattle.command.specs.declared.Command.{Command}
@@ -116,6 +116,9 @@ pub record InTurn : Type 0 where
   pub broken : (r : Record) (ps qs : List Piece) (head : ℕ) → runs onPiece r (ps ++ Broken head ∷ qs) ≡ runs onPiece r (ps ++ qs)
   -- "Replies: AA, 5n or 6n (amplifier or BT121), status, n bytes, 85."
   pub reply : (a : Reply) (said : List Reply) → repliesBytes (a ∷ said) ≡ 0xAA ∷ (a .kind * 16 + length (a .body)) ∷ a .status ∷ (a .body ++ 0x85 ∷ []) ++ repliesBytes said
+  -- "0 done; counts are bytes written and bytes skipped", "output behind the written bytes is unchanged"
+  pub left : (r : Record) (out : List ℕ) (skipped : ℕ) (o : List ℕ)
+      → done r out skipped o ≡ record { answer = record { result = 0; written = length out; skipped = skipped }; kept = bytesOf r; output = out ++ drop (length out) o }
   -- A bytes call that nothing stops cuts pending bytes and input into pieces, answers them in turn, and counts what the cut skipped.
   pub call : (s input o : List ℕ) → NoReason (bytesReasons s input o)
       → let c = cut serial (recordOf s .pending ++ input) in
