@@ -1,25 +1,29 @@
 -- One frame by its checks, and frames one after the other.
-use Prim.Native.Nat.{ℕ, _+_, _-_}
+use Prim.Native.Nat.{ℕ, _+_, _-_, _*_}
 use mathlib.Core.Path.{_≡_, refl, sym, ap, _∙_}
 use mathlib.Core.Logic.{_≢_}
 use mathlib.Core.Bool.{Bool, true, false}
-use mathlib.Core.List.{List, [], _∷_}
+use mathlib.Core.List.{List, [], _∷_, _++_}
+use native.Mathlib.Nat.{zero-add}
 use native.Mathlib.Omega.{arith}
 use lib.ListN.{length, getD, List·getD-eq-default}
 use lib.Dec.{ltb, eqb}
 use borrow.Author.Tests.{lt-ltb, le-leb, lt-leb, eq-eqb, ne-eqb, eqb-true, ltb-true, ltb-false}
+use Rattle.wire.specs.Numbers.{wordAt}
 use Rattle.wire.specs.Frames.{Whole, Broken, stop, cutFrom, cut}
 use Rattle.wire.specs.Serial.{serial, headOf, numberOf, paramsOf}
 use Rattle.wire.specs.Replies.{Reply, kindOf, replyBytes, repliesBytes}
 use Rattle.wire.specs.Run.{runs, hunt}
+use Rattle.wire.proofs.NumberLaws.{part-all}
 use Rattle.wire.proofs.CutLaws.{cut-wait, cut-skip, cut-take, cut-tear}
 use Rattle.wire.proofs.SerialLaws.{look-lines}
 use Rattle.wire.proofs.RunLaws.{runs-append}
 use Rattle.wire.proofs.PutLaws.{put-zero}
-use Rattle.peak.specs.Pairs.{Pair, noPair, pairFits, pairBytes}
-use Rattle.peak.proofs.PairLaws.{both}
-use Rattle.record.specs.Record.{Record, withTries}
-use Rattle.record.specs.Layout.{channels, bytesOf}
+use Rattle.peak.specs.Pairs.{Pair, noPair, seen, pairFits, pairBytes}
+use Rattle.peak.proofs.PairLaws.{both, seen-at, length-seen}
+use Rattle.record.specs.Record.{Record, withFlags, withTries, withPairs}
+use Rattle.record.specs.Layout.{channels, bytesOf, recordOf}
+use Rattle.record.specs.Reading.{readingOf}
 use Rattle.command.specs.declared.Command.{Command}
 use Rattle.command.specs.declared.Command.the-variants.{ReadPair}
 use Rattle.command.specs.declared.Refusal.{Refusal}
@@ -31,7 +35,7 @@ use Rattle.command.specs.Effects.{effectOf, dataOf}
 use Rattle.command.specs.Step.{stepOf, leftBy, settled, onPiece}
 use Rattle.command.proofs.Refused.{verdict-is, verdict, step-is, passed, takes-effect, refused-silent}
 use Rattle.hunt.specs.Hunt.{huntOf, recordAfter}
-use Rattle.demands.specs.AsListed.{number, Legal, FrameAsListed, BeforeReading, announced, SixLines, InTurn, AnswersAsListed}
+use Rattle.demands.specs.AsListed.{number, Legal, FrameAsListed, BeforeReading, announced, SixLines, InTurn, ReadingTaken, AnswersAsListed}
 use Rattle.demands.proofs.FactoryLaws.{factory-done}
 use Rattle.demands.proofs.PowerOnLaws.{power-on-done}
 use Rattle.demands.proofs.BytesLaws.{bytes-done}
@@ -142,6 +146,20 @@ in-turn = record {
   call = bytes-done;
 }
 
+-- ---- a reading
+
+taken : (r : Record) (sample : List ℕ) → ReadingTaken r sample
+unfolding readingOf withFlags withPairs
+taken r sample = record {
+  flagged = refl;
+  taken = λ k h. seen-at (r .flags .reading) (r .pairs) sample 0 k h ∙ ap (λ (at : ℕ). seen (r .flags .reading) (getD (r .pairs) k noPair) (wordAt sample at)) (zero-add (4 * k));
+  many = length-seen (r .flags .reading) (r .pairs) sample 0;
+}
+
+six : (s : List ℕ) → length (recordOf s .pairs) ≡ 6
+unfolding recordOf
+six s = refl
+
 pub answers-as-listed : AnswersAsListed
 answers-as-listed = record {
   each-frame = each-frame;
@@ -149,5 +167,14 @@ answers-as-listed = record {
   looked = look-lines;
   hunted = hunted;
   in-turn = in-turn;
-  others = record { new-record = factory-done; switched-on = power-on-done; reading = samples-done };
+  others = record {
+    new-record = factory-done;
+    switched-on = power-on-done;
+    reading = samples-done;
+    pairs = taken;
+    six = six;
+    first = λ p x. refl;
+    later = λ p x. refl;
+    measuring = λ sample n. ap (λ (l : List ℕ). 0xAA ∷ 0x15 ∷ 0xB0 ∷ l ++ 0x85 ∷ []) (part-all 24 sample n);
+  };
 }

@@ -2,20 +2,23 @@
 use Prim.Native.Nat.{ℕ, _+_, _*_, _%_, _≤_, _<_}
 use mathlib.Core.Path.{_≡_}
 use mathlib.Core.Logic.{_↔_, _≢_}
-use mathlib.Core.Bool.{true, false}
+use mathlib.Core.Bool.{true, false, cond}
 use mathlib.Core.List.{List, [], _∷_, _++_}
 use lib.ListN.{length, getD, take, drop, replicate}
 use lib.Dec.{ltb, leb, eqb}
+use Rattle.wire.specs.Numbers.{wordAt}
 use Rattle.wire.specs.Frames.{Piece, Whole, Broken, look, stop, skipOne, takeOne, tearOne, cut}
 use Rattle.wire.specs.Serial.{isHead, serial, sixLines, headOf, numberOf, paramsOf}
 use Rattle.wire.specs.Replies.{Reply, kindOf, repliesBytes}
 use Rattle.wire.specs.Run.{runs}
 use Rattle.wire.specs.declared.Range.{Range}
 use Rattle.wire.specs.declared.Range.the-variants.{Fits, Big, Small}
-use Rattle.record.specs.Record.{Record, withTries, withPending}
-use Rattle.record.specs.Layout.{recordSize, bytesOf, recordOf}
+use Rattle.peak.specs.Pairs.{Pair, noPair, less, seen}
+use Rattle.record.specs.Record.{Record, withReading, withFlags, withTries, withPending, withPairs}
+use Rattle.record.specs.Layout.{recordSize, channels, bytesOf, recordOf}
 use Rattle.record.specs.Form.{InRange}
 use Rattle.record.specs.Births.{factory, poweredOn}
+use Rattle.record.specs.Reading.{readingOf}
 use Rattle.command.specs.declared.Command.{Command}
 use Rattle.command.specs.declared.Command.the-variants.{ReadPair}
 use Rattle.command.specs.declared.Listed.{Listed}
@@ -30,7 +33,7 @@ use Rattle.command.specs.Effects.{effectOf, dataOf}
 use Rattle.command.specs.Step.{stepOf, onPiece}
 use Rattle.call.specs.Outcome.{done}
 use Rattle.call.specs.Reasons.{NoReason}
-use Rattle.board.specs.Calls.{factoryCall, powerOnCall, bytesCall, afterSample, samplesCall}
+use Rattle.board.specs.Calls.{factoryCall, powerOnCall, bytesCall, measuringFrame, afterSample, samplesCall}
 use Rattle.demands.specs.CallList.{Malformed, bytesReasons, samplesReasons}
 
 -- ---- one frame f, on a board with the record r
@@ -125,6 +128,17 @@ pub record InTurn : Type 0 where
       let run = runs onPiece (recordOf s) (c .pieces) in
       bytesCall s input o ≡ done (withPending (run .state) (c .waiting)) (repliesBytes (run .said)) (c .skipped) o
 
+-- ---- a reading of channels 1 to 6, on a board with the record r
+
+module _ (r : Record) (sample : List ℕ) where
+  pub record ReadingTaken : Type 0 where
+    -- "The first reading sets both, with the reading flag", and nothing but the flag and the pairs changes;
+    pub flagged : readingOf r sample ≡ withPairs (withFlags r (withReading (r .flags) true)) (readingOf r sample .pairs)
+    -- of each channel the pair is that of its value,
+    pub taken : (k : ℕ) → k < length (r .pairs) → getD (readingOf r sample .pairs) k noPair ≡ seen (r .flags .reading) (getD (r .pairs) k noPair) (wordAt sample (4 * k))
+    -- and there are no more and no fewer of them.
+    pub many : length (readingOf r sample .pairs) ≡ length (r .pairs)
+
 -- ---- the other three calls, when nothing stops them
 
 pub record OtherCalls : Type 0 where
@@ -134,6 +148,13 @@ pub record OtherCalls : Type 0 where
   pub switched-on : (s : List ℕ) → ¬ Malformed s → powerOnCall s ≡ done (poweredOn (recordOf s)) [] 0 []
   -- A reading goes into the pairs and, with sending on, out as a measuring frame.
   pub reading : (s sample o : List ℕ) → NoReason (samplesReasons s sample o) → samplesCall s sample o ≡ afterSample (recordOf s) sample o
+  pub pairs : (r : Record) (sample : List ℕ) → ReadingTaken r sample
+  pub six : (s : List ℕ) → length (recordOf s .pairs) ≡ 6
+  -- "The first reading sets both, with the reading flag; later a strictly greater or strictly smaller value replaces"
+  pub first : (p : Pair) (x : ℕ) → seen false p x ≡ record { greatest = x; smallest = x }
+  pub later : (p : Pair) (x : ℕ) → seen true p x ≡ record { greatest = cond (less (p .greatest) x) x (p .greatest); smallest = cond (less x (p .smallest)) x (p .smallest) }
+  -- "AA 15 B0, the 24 bytes, 85 (28 bytes)"
+  pub measuring : (sample : List ℕ) → length sample ≡ 24 → measuringFrame channels sample ≡ 0xAA ∷ 0x15 ∷ 0xB0 ∷ sample ++ 0x85 ∷ []
 
 -- The board answers as the tables say.
 pub record AnswersAsListed : Type 0 where
