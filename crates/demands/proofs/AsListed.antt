@@ -23,6 +23,7 @@ use Rattle.peak.specs.Pairs.{Pair, noPair, seen, pairFits, pairBytes}
 use Rattle.peak.proofs.PairLaws.{both, seen-at, length-seen}
 use Rattle.record.specs.Record.{Record, withFlags, withTries, withPairs}
 use Rattle.record.specs.Layout.{channels, bytesOf, recordOf}
+use Rattle.record.specs.Births.{factory, poweredOn}
 use Rattle.record.specs.Reading.{readingOf}
 use Rattle.command.specs.declared.Command.{Command}
 use Rattle.command.specs.declared.Command.the-variants.{ReadPair}
@@ -35,6 +36,7 @@ use Rattle.command.specs.Effects.{effectOf, dataOf}
 use Rattle.command.specs.Step.{stepOf, leftBy, settled, onPiece}
 use Rattle.command.proofs.Refused.{verdict-is, verdict, step-is, passed, takes-effect, refused-silent}
 use Rattle.hunt.specs.Hunt.{huntOf, recordAfter}
+use Rattle.call.specs.Outcome.{done}
 use Rattle.demands.specs.AsListed.{number, Legal, FrameAsListed, BeforeReading, announced, SixLines, InTurn, ReadingTaken, AnswersAsListed}
 use Rattle.demands.proofs.FactoryLaws.{factory-done}
 use Rattle.demands.proofs.PowerOnLaws.{power-on-done}
@@ -146,6 +148,13 @@ in-turn = record {
   call = bytes-done;
 }
 
+-- ---- power-on
+
+on-keeps : (r : Record)
+    → poweredOn r ≡ record { flags = factory .flags; tries = 0; code = r .code; settings = r .settings; outputs = factory .outputs; model = r .model; pending = []; pairs = factory .pairs; counter = 0 }
+unfolding poweredOn factory
+on-keeps r = refl
+
 -- ---- a reading
 
 taken : (r : Record) (sample : List ℕ) → ReadingTaken r sample
@@ -169,7 +178,7 @@ answers-as-listed = record {
   in-turn = in-turn;
   others = record {
     new-record = factory-done;
-    switched-on = power-on-done;
+    powered-on = λ s h. power-on-done s h ∙ ap (λ (r : Record). done r [] 0 []) (on-keeps (recordOf s));
     reading = samples-done;
     pairs = taken;
     six = six;

@@ -17,7 +17,7 @@ use Rattle.peak.specs.Pairs.{Pair, noPair, less, seen}
 use Rattle.record.specs.Record.{Record, withReading, withFlags, withTries, withPending, withPairs}
 use Rattle.record.specs.Layout.{recordSize, channels, bytesOf, recordOf}
 use Rattle.record.specs.Form.{InRange}
-use Rattle.record.specs.Births.{factory, poweredOn}
+use Rattle.record.specs.Births.{factory}
 use Rattle.record.specs.Reading.{readingOf}
 use Rattle.command.specs.declared.Command.{Command}
 use Rattle.command.specs.declared.Command.the-variants.{ReadPair}
@@ -145,7 +145,9 @@ pub record OtherCalls : Type 0 where
   -- Factory writes a new record.
   pub new-record : (s : List ℕ) → length s ≡ recordSize → factoryCall s ≡ done factory [] 0 []
   -- Power-on keeps the code, the settings and the model, and nothing else.
-  pub switched-on : (s : List ℕ) → ¬ Malformed s → powerOnCall s ≡ done (poweredOn (recordOf s)) [] 0 []
+  pub powered-on : (s : List ℕ) → ¬ Malformed s
+      → let r = recordOf s in
+      powerOnCall s ≡ done (record { flags = factory .flags; tries = 0; code = r .code; settings = r .settings; outputs = factory .outputs; model = r .model; pending = []; pairs = factory .pairs; counter = 0 }) [] 0 []
   -- A reading goes into the pairs and, with sending on, out as a measuring frame.
   pub reading : (s sample o : List ℕ) → NoReason (samplesReasons s sample o) → samplesCall s sample o ≡ afterSample (recordOf s) sample o
   pub pairs : (r : Record) (sample : List ℕ) → ReadingTaken r sample
