@@ -17,7 +17,7 @@ use Rattle.call.proofs.InOrder.{allowed-is}
 use Rattle.board.specs.Calls.{bytesCall}
 use Rattle.demands.specs.CallList.{BytesIn}
 use Rattle.demands.specs.Examples.{openFrame}
-use Rattle.demands.specs.Boards.{Board, OneFrame, RefusesAll, SaysDone, DoesNothing, FirstOnly, InventsCount, ShutOut, WrongShutOut, KindsExist}
+use Rattle.demands.specs.Boards.{Board, OneFrame, RefusesAll, SaysDone, DoesNothing, Starts, FirstOnly, InventsCount, ShutOut, WrongShutOut, KindsExist}
 use Rattle.demands.proofs.EndsProperly.{ends-properly}
 use Rattle.demands.proofs.AsListed.{answers-as-listed}
 
@@ -107,8 +107,11 @@ always-says : SaysDone says-done
 unfolding put
 always-says s f o e n d = refl
 
-starts : FirstOnly replies-on
-starts s f g o a b n p q = ap (λ (l : List ℕ). bytesCall s l o .kept) (first-of f g a ∙ sym (ap (λ (c : Cut). first (c .pieces)) a))
+starts : Starts replies-on
+starts s f o e n = ap (λ (c : Cut). bytesCall s (first (c .pieces)) o .kept) e
+
+first-only : FirstOnly replies-on
+first-only s f g o a b n p q = ap (λ (l : List ℕ). bytesCall s l o .kept) (first-of f g a ∙ sym (ap (λ (c : Cut). first (c .pieces)) a))
 
 invents : InventsCount counts
 unfolding bytesCall factory bytesOf recordOf cutFrom
@@ -120,6 +123,6 @@ kinds-exist = record {
   refuser = (says-unknown, (λ s f o e. e), refuses-all);
   sayer = (says-done, (λ s f o e. e), always-says);
   idler = (idles, (λ s f o e. e), λ s f o. refl);
-  starter = (replies-on, (λ s f o e. e), starts);
+  starter = (replies-on, (λ s f o e. e), starts, first-only);
   inventor = (counts, (λ s f o e. e), invents);
 }

@@ -41,6 +41,10 @@ module _ (b : Board) where
   abbrev pub DoesNothing : Type 0
   DoesNothing = (s input o : List ℕ) → recordOf (b s input o .kept) .settings ≡ recordOf s .settings
 
+  -- it carries out a frame that comes alone
+  abbrev pub Starts : Type 0
+  Starts = (s f o : List ℕ) → OneFrame f → recordOf s .pending ≡ [] → b s f o .kept ≡ bytesCall s f o .kept
+
   -- a second frame, replied to or not, changes nothing more
   abbrev pub FirstOnly : Type 0
   FirstOnly = (s f g o : List ℕ) → OneFrame f → OneFrame g → recordOf s .pending ≡ [] → b s f o .answer .result ≡ 0 → b s (f ++ g) o .answer .result ≡ 0 → b s (f ++ g) o .kept ≡ b s f o .kept
@@ -65,5 +69,5 @@ pub record KindsExist : Type 0 where
   pub refuser : (b : Board) × Works b × RefusesAll b
   pub sayer : (b : Board) × Works b × SaysDone b
   pub idler : (b : Board) × Works b × DoesNothing b
-  pub starter : (b : Board) × Works b × FirstOnly b
+  pub starter : (b : Board) × Works b × Starts b × FirstOnly b
   pub inventor : (b : Board) × Works b × InventsCount b
