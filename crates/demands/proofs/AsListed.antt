@@ -22,7 +22,7 @@ use Rattle.wire.proofs.PutLaws.{put-zero}
 use Rattle.peak.specs.Pairs.{Pair, noPair, seen, pairFits, pairBytes}
 use Rattle.peak.proofs.PairLaws.{both, seen-at, length-seen}
 use Rattle.record.specs.Record.{Record, withFlags, withTries, withPairs}
-use Rattle.record.specs.Layout.{channels, bytesOf, recordOf}
+use Rattle.record.specs.Layout.{channels, recordOf}
 use Rattle.record.specs.Births.{factory, poweredOn}
 use Rattle.record.specs.Reading.{readingOf}
 use Rattle.command.specs.declared.Command.{Command}
@@ -36,8 +36,7 @@ use Rattle.command.specs.Effects.{effectOf, dataOf}
 use Rattle.command.specs.Step.{stepOf, leftBy, settled, onPiece}
 use Rattle.command.proofs.Refused.{verdict-is, verdict, step-is, passed, takes-effect, refused-silent}
 use Rattle.hunt.specs.Hunt.{huntOf, recordAfter}
-use Rattle.call.specs.Outcome.{done}
-use Rattle.demands.specs.AsListed.{number, Legal, FrameAsListed, BeforeReading, announced, SixLines, InTurn, ReadingTaken, AnswersAsListed}
+use Rattle.demands.specs.AsListed.{number, Legal, FrameAsListed, BeforeReading, announced, SixLines, InTurn, ReadingTaken, OtherCalls, AnswersAsListed}
 use Rattle.demands.proofs.FactoryLaws.{factory-done}
 use Rattle.demands.proofs.PowerOnLaws.{power-on-done}
 use Rattle.demands.proofs.BytesLaws.{bytes-done}
@@ -144,16 +143,9 @@ in-turn = record {
   frame = λ r ps qs f. runs-append Record Reply serial onPiece r ps (Whole f ∷ qs);
   broken = λ r ps qs head. runs-append Record Reply serial onPiece r ps (Broken head ∷ qs) ∙ sym (runs-append Record Reply serial onPiece r ps qs);
   reply = λ a said. refl;
-  left = λ r out skipped o. ap (λ (l : List ℕ). record { answer = record { result = 0; written = length out; skipped = skipped }; kept = bytesOf r; output = l }) (put-zero o out);
+  left = λ r out skipped o. rw (put-zero o out) refl;
   call = bytes-done;
 }
-
--- ---- power-on
-
-on-keeps : (r : Record)
-    → poweredOn r ≡ record { flags = factory .flags; tries = 0; code = r .code; settings = r .settings; outputs = factory .outputs; model = r .model; pending = []; pairs = factory .pairs; counter = 0 }
-unfolding poweredOn factory
-on-keeps r = refl
 
 -- ---- a reading
 
@@ -169,6 +161,21 @@ six : (s : List ℕ) → length (recordOf s .pairs) ≡ 6
 unfolding recordOf
 six s = refl
 
+-- ---- the other calls
+
+others : OtherCalls
+unfolding factory poweredOn
+others = record {
+  new-record = factory-done;
+  powered-on = power-on-done;
+  reading = samples-done;
+  pairs = taken;
+  six = six;
+  first = λ p x. refl;
+  later = λ p x. refl;
+  measuring = λ sample n. ap (λ (l : List ℕ). 0xAA ∷ 0x15 ∷ 0xB0 ∷ l ++ 0x85 ∷ []) (part-all 24 sample n);
+}
+
 pub answers-as-listed : AnswersAsListed
 answers-as-listed = record {
   each-frame = each-frame;
@@ -176,14 +183,5 @@ answers-as-listed = record {
   looked = look-lines;
   hunted = hunted;
   in-turn = in-turn;
-  others = record {
-    new-record = factory-done;
-    powered-on = λ s h. power-on-done s h ∙ ap (λ (r : Record). done r [] 0 []) (on-keeps (recordOf s));
-    reading = samples-done;
-    pairs = taken;
-    six = six;
-    first = λ p x. refl;
-    later = λ p x. refl;
-    measuring = λ sample n. ap (λ (l : List ℕ). 0xAA ∷ 0x15 ∷ 0xB0 ∷ l ++ 0x85 ∷ []) (part-all 24 sample n);
-  };
+  others = others;
 }

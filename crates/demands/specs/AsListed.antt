@@ -128,16 +128,15 @@ pub record InTurn : Type 0 where
       let run = runs onPiece (recordOf s) (c .pieces) in
       bytesCall s input o ≡ done (withPending (run .state) (c .waiting)) (repliesBytes (run .said)) (c .skipped) o
 
--- ---- a reading of channels 1 to 6, on a board with the record r
+-- ---- a reading, taken into the record r
 
-module _ (r : Record) (sample : List ℕ) where
-  pub record ReadingTaken : Type 0 where
-    -- "The first reading sets both, with the reading flag", and nothing but the flag and the pairs changes;
-    pub flagged : readingOf r sample ≡ withPairs (withFlags r (withReading (r .flags) true)) (readingOf r sample .pairs)
-    -- of each channel the pair is that of its value,
-    pub taken : (k : ℕ) → k < length (r .pairs) → getD (readingOf r sample .pairs) k noPair ≡ seen (r .flags .reading) (getD (r .pairs) k noPair) (wordAt sample (4 * k))
-    -- and there are no more and no fewer of them.
-    pub many : length (readingOf r sample .pairs) ≡ length (r .pairs)
+pub record ReadingTaken (r : Record) (sample : List ℕ) : Type 0 where
+  -- The reading flag is set, and nothing but it and the pairs changes;
+  pub flagged : readingOf r sample ≡ withPairs (withFlags r (withReading (r .flags) true)) (readingOf r sample .pairs)
+  -- the pair of each channel takes the value of that channel,
+  pub taken : (k : ℕ) → k < length (r .pairs) → getD (readingOf r sample .pairs) k noPair ≡ seen (r .flags .reading) (getD (r .pairs) k noPair) (wordAt sample (4 * k))
+  -- and there are as many pairs as before.
+  pub many : length (readingOf r sample .pairs) ≡ length (r .pairs)
 
 -- ---- the other three calls, when nothing stops them
 
@@ -151,6 +150,7 @@ pub record OtherCalls : Type 0 where
   -- A reading goes into the pairs and, with sending on, out as a measuring frame.
   pub reading : (s sample o : List ℕ) → NoReason (samplesReasons s sample o) → samplesCall s sample o ≡ afterSample (recordOf s) sample o
   pub pairs : (r : Record) (sample : List ℕ) → ReadingTaken r sample
+  -- "six pairs greatest, smallest, from channel 1 on"
   pub six : (s : List ℕ) → length (recordOf s .pairs) ≡ 6
   -- "The first reading sets both, with the reading flag; later a strictly greater or strictly smaller value replaces"
   pub first : (p : Pair) (x : ℕ) → seen false p x ≡ record { greatest = x; smallest = x }
