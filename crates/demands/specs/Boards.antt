@@ -64,7 +64,7 @@ module _ (b : Board) where
 abbrev pub WrongShutOut : Type 0
 WrongShutOut = (b : Board) → Meets b → ShutOut b
 
--- Each of the five kinds has a board, and one that refuses no call which the contract lets through.
+-- Each of the five kinds has a board, and one that refuses no call which the contract lets through; the starter carries out a frame that comes alone.
 pub record KindsExist : Type 0 where
   pub refuser : (b : Board) × Works b × RefusesAll b
   pub sayer : (b : Board) × Works b × SaysDone b
