@@ -1,4 +1,5 @@
 -- Every call ends properly, by its laws.
+use mathlib.Core.Path.{refl}
 use Rattle.demands.specs.CallList.{callOf}
 use Rattle.demands.specs.EndsProperly.{EndsProperly}
 use Rattle.demands.proofs.Laws.{ends-by, unharmed-by}
@@ -6,6 +7,7 @@ use Rattle.demands.proofs.AllLaws.{laws-of}
 
 pub ends-properly : EndsProperly
 ends-properly = record {
+  numbers = (refl, refl, refl, refl);
   ends = λ m s. ends-by (callOf (m .name)) (laws-of (m .name)) (m .lent) s;
   unharmed = λ m s b g. unharmed-by (callOf (m .name)) (laws-of (m .name)) (m .lent) s b g;
 }

@@ -4,7 +4,8 @@ use mathlib.Core.Path.{_≡_}
 use mathlib.Core.List.{List}
 use lib.ListN.{length}
 use Rattle.wire.specs.Numbers.{Bytes}
-use Rattle.call.specs.Outcome.{Outcome}
+use Rattle.call.specs.declared.Ending.the-variants.{BadRecord, BadLength, NoRoom, NotFinite}
+use Rattle.call.specs.Outcome.{resultOf, Outcome}
 use Rattle.call.specs.Reasons.{Ends}
 use Rattle.demands.specs.CallList.{Malformed, Made, callOf, outcomeOf}
 
@@ -15,6 +16,8 @@ pub record Unharmed (s o : List ℕ) (z : Outcome) : Type 0 where
   pub well-formed : z .answer .result ≡ 0 → ¬ Malformed (z .kept)
 
 pub record EndsProperly : Type 0 where
+  -- The numbers of the table of call results.
+  pub numbers : (resultOf BadRecord ≡ 1) × (resultOf BadLength ≡ 2) × (resultOf NoRoom ≡ 3) × (resultOf NotFinite ≡ 4)
   -- The first reason that applies gives its number, zero counts, and record and output as they were; the result is 0 exactly when none applies.
   pub ends : (m : Made) (s : List ℕ) → let c = callOf (m .name) in Ends (c .reasons (m .lent) s) s (c .output (m .lent)) (outcomeOf m s)
   pub unharmed : (m : Made) (s : List ℕ) → let c = callOf (m .name) in Bytes s → c .OfBytes (m .lent) → Unharmed s (c .output (m .lent)) (outcomeOf m s)
