@@ -24,7 +24,7 @@ fits s input o b g n = rw (bytes-done s input o n) (room-enough (recordOf s) inp
 pub room : Room
 room = record {
   most = most-room;
-  enough = λ s input o b g e. fits s input o b g (ends-properly .ends (record { name = BytesIn; lent = record { input = input; output = o } }) s .done-exactly .0 e);
+  replies-fit = λ s input o b g e. fits s input o b g (ends-properly .ends (record { name = BytesIn; lent = record { input = input; output = o } }) s .done-exactly .0 e);
   idle-room = idle-room;
   idle = λ s o b n. empty-input s o b (well s (n .0)) (omega (arith, n .1 .1 .0));
 }

@@ -1,22 +1,20 @@
 -- A call as a value: what it is lent, why it refuses, what it leaves, and when it tells nothing of a code. Every demand is stated over the list of calls.
-use Prim.Native.Nat.{ℕ, _+_, _*_, _<_}
+use Prim.Native.Nat.{ℕ, _+_, _*_, _/_, _<_}
 use mathlib.Core.Path.{_≡_}
 use mathlib.Core.Logic.{_≢_}
 use mathlib.Core.Bool.{Bool, true, false}
 use mathlib.Core.List.{List, [], _∷_, _++_}
 use lib.ListN.{length}
-use Rattle.wire.specs.Sizes.{inputMost}
 use Rattle.wire.specs.Numbers.{Bytes, wordAt}
 use Rattle.wire.specs.Frames.{cut}
 use Rattle.wire.specs.Serial.{serial}
 use Rattle.peak.specs.Pairs.{finite}
-use Rattle.record.specs.Layout.{recordSize, channels, recordOf}
+use Rattle.record.specs.Layout.{recordOf}
 use Rattle.record.specs.Form.{wellFormed}
-use Rattle.hunt.specs.Hunt.{roomFor}
 use Rattle.call.specs.declared.Ending.the-variants.{BadRecord, BadLength, NoRoom, NotFinite}
 use Rattle.call.specs.Outcome.{Outcome}
 use Rattle.call.specs.Reasons.{Reason, reason}
-use Rattle.board.specs.Calls.{factoryCall, powerOnCall, bytesCall, sampleSize, measuringSize, samplesCall}
+use Rattle.board.specs.Calls.{factoryCall, powerOnCall, bytesCall, samplesCall}
 use Rattle.demands.specs.Premise.{QuietRun}
 
 pub record Call : Type 1 where
@@ -46,15 +44,15 @@ Malformed s = wellFormed s ≡ false
 
 -- 2: the input is over 4,096 bytes
 abbrev pub TooLong : List ℕ → Type 0
-TooLong input = inputMost < length input
+TooLong input = 4096 < length input
 
 -- 3: the output is shorter than 19 times the whole part of (pending + input) / 4
 abbrev pub Cramped : List ℕ → List ℕ → List ℕ → Type 0
-Cramped s input o = length o < roomFor (length (recordOf s .pending) + length input)
+Cramped s input o = length o < 19 * ((length (recordOf s .pending) + length input) / 4)
 
 -- 4: one of the six readings is infinite or no number
 abbrev pub Stray : List ℕ → Type 0
-Stray sample = (k : ℕ) × (k < channels) × (finite (wordAt sample (4 * k)) ≡ false)
+Stray sample = (k : ℕ) × (k < 6) × (finite (wordAt sample (4 * k)) ≡ false)
 
 -- ---- the four calls
 
@@ -71,7 +69,7 @@ alone reasons outcome resets = record {
 }
 
 abbrev pub factoryEntry : Call
-factoryEntry = alone (λ s. reason (length s ≢ recordSize) BadRecord ∷ []) factoryCall true
+factoryEntry = alone (λ s. reason (length s ≢ 123) BadRecord ∷ []) factoryCall true
 
 abbrev pub powerOnEntry : Call
 powerOnEntry = alone (λ s. reason (Malformed s) BadRecord ∷ []) powerOnCall true
@@ -98,7 +96,7 @@ bytesEntry =
     (λ l s t. bytesCall s (l .input) (l .output) .answer .result ≡ 0 → QuietRun (recordOf s) (recordOf t) (cut serial (recordOf s .pending ++ l .input) .pieces))
 
 abbrev pub samplesReasons : List ℕ → List ℕ → List ℕ → List Reason
-samplesReasons s sample o = reason (Malformed s) BadRecord ∷ reason (length sample ≢ sampleSize) BadLength ∷ reason (length o < measuringSize) NoRoom ∷ reason (Stray sample) NotFinite ∷ []
+samplesReasons s sample o = reason (Malformed s) BadRecord ∷ reason (length sample ≢ 24) BadLength ∷ reason (length o < 28) NoRoom ∷ reason (Stray sample) NotFinite ∷ []
 
 abbrev pub samplesEntry : Call
 samplesEntry = buffered samplesReasons samplesCall (λ l s t. Unit {0})
