@@ -7,7 +7,7 @@ use lib.ListN.{getD, replicate}
 use Rattle.wire.specs.Numbers.{Bytes}
 use Rattle.wire.specs.Frames.{cutFrom}
 use Rattle.wire.specs.Serial.{serial}
-use Rattle.record.specs.Record.{withCode}
+use Rattle.record.specs.Record.{withTries, withCode}
 use Rattle.record.specs.Layout.{atTries, atCode, bytesOf, recordOf}
 use Rattle.record.specs.Births.{factory}
 use Rattle.command.specs.Compare.{compares}
@@ -66,7 +66,7 @@ zeros-bytes (suc n) zero = omega arith
 zeros-bytes (suc n) (suc i) = zeros-bytes n i
 
 pub premise-met : PremiseMet
-unfolding bytesCall samplesCall bytesOf recordOf factory withCode cutFrom serial compares
+unfolding bytesCall samplesCall bytesOf recordOf factory withTries withCode cutFrom serial compares
 premise-met = record {
   pair = code-only factory 0x01020304;
   differ = λ e. let z : _≡_ {A = ℕ} 0x55 0x01 = ap (λ (s : List ℕ). getD s atCode 0) e in omega arith;
@@ -76,6 +76,8 @@ premise-met = record {
   of-bytes = (third-bytes, (zeros-bytes 24, tt));
   quiet = (λ e. ((λ c. ((λ z. omega arith), λ z. omega arith)), tt), (tt, tt));
   no-reset = (refl, (refl, tt));
+  used-up = refl;
+  refused = (refl, refl, refl);
 }
 
 pub premise-needed : PremiseNeeded

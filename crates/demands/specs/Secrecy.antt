@@ -4,16 +4,16 @@ use mathlib.Core.Path.{_≡_}
 use mathlib.Core.Logic.{_≢_}
 use mathlib.Core.Bool.{true, false}
 use mathlib.Core.List.{List, [], _∷_}
-use lib.ListN.{getD, replicate}
+use lib.ListN.{getD, take, replicate}
 use Rattle.wire.specs.Numbers.{Bytes}
-use Rattle.record.specs.Record.{withCode}
+use Rattle.record.specs.Record.{withTries, withCode}
 use Rattle.record.specs.Layout.{atTries, bytesOf, recordOf}
 use Rattle.record.specs.Births.{factory}
 use Rattle.command.specs.Compare.{compares}
 use Rattle.board.specs.Calls.{bytesCall, samplesCall}
 use Rattle.demands.specs.Premise.{SameButCode, Alike}
 use Rattle.demands.specs.CallList.{BytesIn, SamplesIn, callOf, Made, outcomeOf}
-use Rattle.demands.specs.Examples.{rightCode}
+use Rattle.demands.specs.Examples.{rightCode, denied}
 
 -- ---- calls made one after the other
 
@@ -77,6 +77,10 @@ frameRoom = replicate 28 0x00
 abbrev pub harmless : List Made
 harmless = record { name = BytesIn; lent = record { input = thirdCode; output = enough } } ∷ record { name = SamplesIn; lent = record { input = sixZeros; output = frameRoom } } ∷ []
 
+-- the factory board with three wrong tries used
+abbrev pub spent : List ℕ
+spent = bytesOf (withTries factory 3)
+
 -- The boards have different codes, both calls are done, the command is compared, the premise holds, and neither of the two calls gives new tries.
 pub record PremiseMet : Type 0 where
   pub pair : SameButCode ours theirs
@@ -87,6 +91,9 @@ pub record PremiseMet : Type 0 where
   pub of-bytes : AllOfBytes harmless
   pub quiet : AllQuiet ours theirs harmless
   pub no-reset : NoReset harmless
+  -- With three wrong tries used the call that carries the right code is done too; the reply is 62, and the record stays as it was.
+  pub used-up : getD spent atTries 0 ≡ 3
+  pub refused : let z = bytesCall spent rightCode enough in (z .answer .result ≡ 0) × (take (z .answer .written) (z .output) ≡ denied) × (z .kept ≡ spent)
 
 -- The code of one of them tells them apart.
 abbrev pub PremiseNeeded : Type 0
