@@ -6,6 +6,7 @@ ghost use Rattle.wire.specs.Numbers.{put};
 ghost use Rattle.record.specs.Layout.{channels};
 ghost use Rattle.call.specs.Outcome.{Leaves};
 ghost use Rattle.board.specs.Calls.{sampleSize, measuringSize, measuringFrame, samplesCall};
+use buffer::write::put_in;
 use call::Answer;
 use call::Ending;
 use call::ended;
@@ -13,7 +14,6 @@ use form::form_of;
 use reading::peaks::finite_sample;
 use reading::peaks::take_reading;
 use record::Form;
-use wire::buffer::put_in;
 
 // A reading of six channels, and its measuring frame.
 const SAMPLE_SIZE: usize = 24;

@@ -8,13 +8,13 @@ ghost use Rattle.wire.specs.Serial.{isHead, headOf};
 ghost use Rattle.record.specs.Layout.{recordOf};
 ghost use Rattle.record.specs.InPlace.{Sound};
 ghost use Rattle.carry.specs.Carry.{Acts, Carries};
+use buffer::reply::close_reply;
 use command::Verdict;
 use data::put_data;
 use effect::refuse_on;
 use effect::take_effect;
 use judge::judge;
 use table::status_of;
-use wire::reply::close_reply;
 
 // Judges a command and does to the record what follows from that.
 pub fn act(rec: &mut [u8], head: u8, number: u8, p: &[u8]) -> Verdict

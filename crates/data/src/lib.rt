@@ -13,6 +13,8 @@ ghost use Rattle.command.specs.declared.Counted.the-variants.{Right};
 ghost use Rattle.command.specs.Tables.{countedOf, rangeOf};
 ghost use Rattle.command.specs.Effects.{dataOf, modelData};
 ghost use Rattle.data.specs.PutsData.{PutsData};
+use buffer::write::put_in;
+use buffer::zeros::first_zero;
 use command::Command;
 use record::places::AT_FILTER;
 use record::places::AT_FLAGS;
@@ -27,8 +29,6 @@ use record::places::AT_POWER;
 use record::places::AT_STEP;
 use record::places::BEFORE_INPUTS;
 use record::places::MODEL_ROOM;
-use wire::buffer::put_in;
-use wire::zeros::first_zero;
 
 fn put_one(out: &mut [u8], at: usize, a: u8) -> usize
     requires { ⌜ at + 15 ≤ length (now out) ⌝ }

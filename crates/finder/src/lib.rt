@@ -6,9 +6,9 @@ ghost use lib.ListN.{length};
 ghost use Rattle.wire.specs.Sizes.{streamMost};
 ghost use Rattle.wire.specs.Serial.{headsOf, Noise};
 ghost use Rattle.finder.specs.Finder.{noAA, Reaches, Finds};
+use buffer::heads::announced_by;
 use wire::Announced;
 use wire::Line;
-use wire::heads::announced_by;
 
 // What the finder stopped at: a frame with so many parameters, a broken head, or nothing that can be decided.
 pub enum Seen {

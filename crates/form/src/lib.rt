@@ -13,6 +13,11 @@ ghost use Rattle.record.specs.Layout.{recordSize, channels, nameRoom, modelRoom
 ghost use Rattle.record.specs.Limits.{nameRange};
 ghost use Rattle.record.specs.Form.{several, allFine, formOf};
 ghost use Rattle.form.specs.Groups.{headFields, radioFields, inputFields, switchFields, nameFields, pendingFields, pairFields};
+use buffer::heads::announced_by;
+use buffer::numbers::half_at;
+use buffer::numbers::word_at;
+use buffer::zeros::first_zero;
+use buffer::zeros::zeros;
 use limits::INPUT_TYPE_MOST;
 use limits::MODE_MOST;
 use limits::NAME_BYTE_MOST;
@@ -50,11 +55,6 @@ use record::places::SIZE_FIELD;
 use record::places::VERSION;
 use wire::Announced;
 use wire::Line;
-use wire::heads::announced_by;
-use wire::numbers::half_at;
-use wire::numbers::word_at;
-use wire::zeros::first_zero;
-use wire::zeros::zeros;
 
 fn head_fine(s: &[u8]) -> bool
     requires { ⌜ atCode ≤ length (now s) ⌝ }

@@ -8,6 +8,7 @@ ghost use Rattle.record.specs.Layout.{pendingRoom, recordOf};
 ghost use Rattle.record.specs.InPlace.{Sound};
 ghost use Rattle.hunt.specs.Hunt.{roomFor};
 ghost use Rattle.hunt.specs.Progress.{Hunts, Rests, Joins, Serves};
+use buffer::write::put_in;
 use carry::carry;
 use finder::Seen;
 use finder::find;
@@ -16,7 +17,6 @@ use record::places::AT_PENDING;
 use record::places::AT_PENDING_LENGTH;
 use record::places::PENDING_ROOM;
 use wire::Line;
-use wire::buffer::put_in;
 use wire::sizes::FRAME_MOST;
 use wire::sizes::JOIN_MOST;
 

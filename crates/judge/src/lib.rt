@@ -6,6 +6,7 @@ ghost use Rattle.record.specs.InPlace.{Sound, Shows, SoundAt, ShowsAt};
 ghost use Rattle.command.specs.declared.Need.the-variants.{Code};
 ghost use Rattle.command.specs.Judge.{accessOf, verdictOf};
 ghost use Rattle.judge.specs.Checks.{asks};
+use buffer::numbers::word_at;
 use command::Access;
 use command::Counted;
 use command::Listed;
@@ -20,7 +21,6 @@ use table::check_count;
 use table::check_number;
 use table::need_of;
 use wire::Range;
-use wire::numbers::word_at;
 
 fn is_open(rec: &[u8]) -> bool
     requires { ⌜ SoundAt FlagByte atFlags (now rec) ⌝ }

@@ -4,6 +4,8 @@ ghost use lib.ListN.{length};
 ghost use Rattle.record.specs.Layout.{recordSize, bytesOf};
 ghost use Rattle.record.specs.Births.{factory, poweredOn};
 ghost use Rattle.record.specs.InPlace.{Sound, Turns};
+use buffer::write::clear;
+use buffer::write::put_in;
 use record::places::AT_FLAGS;
 use record::places::AT_NAME;
 use record::places::AT_NAME_LENGTH;
@@ -17,8 +19,6 @@ use record::places::RECORD_SIZE;
 use record::places::SENDING;
 use record::places::UNLOCKED;
 use record::places::VERSION;
-use wire::buffer::clear;
-use wire::buffer::put_in;
 
 // The low byte of the length field.
 const SIZE_LOW: u8 = RECORD_SIZE as u8;

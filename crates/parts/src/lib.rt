@@ -10,13 +10,13 @@ ghost use Rattle.wire.specs.Zeros.{beforeZero};
 ghost use Rattle.record.specs.Record.{withName, withSettings, withModel, withPending};
 ghost use Rattle.record.specs.Layout.{NamePart, ModelPart, nameRoom, modelRoom, atNameLength};
 ghost use Rattle.record.specs.InPlace.{SoundAt, SoundPending, TurnsAt, TurnsPending};
+use buffer::write::clear;
+use buffer::write::put_in;
+use buffer::zeros::first_zero;
 use record::places::AT_MODEL;
 use record::places::AT_NAME;
 use record::places::AT_NAME_LENGTH;
 use record::places::MODEL_ROOM;
-use wire::buffer::clear;
-use wire::buffer::put_in;
-use wire::zeros::first_zero;
 
 // Writes a part and zeros behind it, so that no old byte is left in its room.
 fn put_part(rec: &mut [u8], at: usize, end: usize, p: &[u8])

@@ -7,6 +7,8 @@ ghost use Rattle.wire.specs.Ranges.{within, unsigned, also};
 ghost use Rattle.record.specs.Limits.{powerRange, intervalRange, filterRange, nameRange};
 ghost use Rattle.command.specs.declared.Counted.the-variants.{Right};
 ghost use Rattle.command.specs.Tables.{countedOf, rangeOf};
+use buffer::numbers::half_at;
+use buffer::numbers::word_at;
 use command::Command;
 use limits::INPUT_TYPE_MOST;
 use limits::INTERVAL_MOST;
@@ -19,8 +21,6 @@ use limits::power_fits;
 use record::places::CHANNELS;
 use record::places::FILTERS;
 use wire::Range;
-use wire::numbers::half_at;
-use wire::numbers::word_at;
 
 fn unsigned_range(low: u8, high: u8, b: u8) -> Range
     ensures { λ r. ⌜ r ≡ unsigned low high b ⌝ }

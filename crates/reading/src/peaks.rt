@@ -13,6 +13,7 @@ ghost use Rattle.record.specs.InPlace.{Sound};
 ghost use Rattle.record.specs.Reading.{readingOf};
 ghost use Rattle.reading.specs.Decoded.{decodedAt, There, Numbers, AllNumbers, seenPeak, afterReading, peakBytes, putBack};
 use crate::Decoded;
+use buffer::numbers::word_at;
 use peak::Peak;
 use peak::bits_of;
 use peak::finite_float;
@@ -22,7 +23,6 @@ use peak::seen_next;
 use record::places::AT_FLAGS;
 use record::places::AT_PAIRS;
 use record::places::READING;
-use wire::numbers::word_at;
 
 fn finite_at(sample: &[u8], at: usize) -> bool
     requires { ⌜ at + 4 ≤ length (now sample) ⌝ }

@@ -1,10 +1,5 @@
-// Bytes on the wire: sizes, heads, numbers, zeros, buffers, replies.
-pub mod buffer;
-pub mod heads;
-pub mod numbers;
-pub mod reply;
+// Bytes on the wire: sizes, and what a byte may announce.
 pub mod sizes;
-pub mod zeros;
 
 // What a range says of a value.
 pub enum Range {

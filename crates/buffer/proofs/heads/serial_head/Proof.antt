@@ -1,9 +1,9 @@
 -- `serial_head`: 9n and An announce n parameters, other bytes nothing.
 use Rattle.wire.proofs.HeadLaws.{low-none, high-none, head-params}
 use native.Mathlib.Omega.{arith}
 use borrow.Author.Needs.{needs}
-use Rattle.wire.proofs.heads.serial_head.Statement.{statement}
-use Rattle.wire.proofs.heads.serial_head.Tie as tie
+use Rattle.buffer.proofs.heads.serial_head.Statement.{statement}
+use Rattle.buffer.proofs.heads.serial_head.Tie as tie
 
 returns : tie.Need-returns
 returns c = low-none (c .before .args .b) (c .if1 .taken)

@@ -1,9 +1,9 @@
 -- `announced_by`: what a byte announces on a line is that of the line's heads.
 use borrow.Author.Needs.{needs}
 use mathlib.Core.Path.{_∙_}
 use Rattle.wire.proofs.HeadLaws.{board-line}
-use Rattle.wire.proofs.heads.announced_by.Statement.{statement}
-use Rattle.wire.proofs.heads.announced_by.Tie as tie
+use Rattle.buffer.proofs.heads.announced_by.Statement.{statement}
+use Rattle.buffer.proofs.heads.announced_by.Tie as tie
 
 serial-head-requires : tie.Need-serial-head-requires
 serial-head-requires c κs = search needs

@@ -2,10 +2,10 @@
 use native.Mathlib.Omega.{arith}
 use Prim.Native.Nat.{_-_, _≤_}
 use mathlib.Core.Path.{_≡_, refl, sym, _∙_}
 use Rattle.wire.proofs.ScanLaws.{part, zero-word}
 use Rattle.wire.specs.Zeros.{allZero}
-use Rattle.wire.proofs.zeros.past_zeros.Statement.{statement}
-use Rattle.wire.proofs.zeros.past_zeros.Tie as tie
+use Rattle.buffer.proofs.zeros.past_zeros.Statement.{statement}
+use Rattle.buffer.proofs.zeros.past_zeros.Tie as tie
 
 abbrev Inv-loop : tie.InvT-loop
 Inv-loop s from to behind₀ behind = (behind ≤ to) × (allZero (part s from to) ≡ allZero (part s behind to))

@@ -1,10 +1,10 @@
 -- `close_reply`: the four bytes around the data make a reply.
 use native.Mathlib.Omega.{arith}
 use Rattle.wire.proofs.ReplyLaws.{kind-room}
 use lib.ListN.{length-set}
 use borrow.Author.Needs.{needs}
-use Rattle.wire.proofs.reply.close_reply.Statement.{statement}
-use Rattle.wire.proofs.reply.close_reply.Tie as tie
+use Rattle.buffer.proofs.reply.close_reply.Statement.{statement}
+use Rattle.buffer.proofs.reply.close_reply.Tie as tie
 
 slice-write-out : tie.Need-slice-write-out
 slice-write-out c = search needs

@@ -3,10 +3,10 @@ use native.Mathlib.Omega.{arith}
 use Prim.Native.Nat.{_+_, _-_, _≤_}
 use mathlib.Core.Path.{_≡_, refl}
 use lib.ListN.{length}
 use Rattle.wire.proofs.ScanLaws.{part, first-skip, first-hit, first-end}
 use Rattle.wire.specs.Zeros.{beforeZero}
-use Rattle.wire.proofs.zeros.first_zero.Statement.{statement}
-use Rattle.wire.proofs.zeros.first_zero.Tie as tie
+use Rattle.buffer.proofs.zeros.first_zero.Statement.{statement}
+use Rattle.buffer.proofs.zeros.first_zero.Tie as tie
 
 abbrev Inv-loop : tie.InvT-loop
 Inv-loop s from to at₀ at = (at ≤ to) × (from + length (beforeZero (part s from to)) ≡ at + length (beforeZero (part s at to)))

@@ -1,9 +1,9 @@
 // The heads of each line, told once: the hunt and the check of a record both go by them.
 ghost use mathlib.Core.Path.{_≡_};
 ghost use Rattle.wire.specs.Serial.{serialHead};
 ghost use Rattle.wire.specs.Heads.{announcedBy, announcedOf};
-use crate::Announced;
-use crate::Line;
+use wire::Announced;
+use wire::Line;
 
 // The board's heads: 9n and An.
 fn serial_head(b: u8) -> Announced

@@ -1,14 +1,14 @@
 -- `put_in`: the loop leaves the bytes in the buffer from a place on.
 use native.Mathlib.Omega.{arith}
 use Rattle.wire.specs.Numbers.{put}
 use Rattle.wire.proofs.PutLaws.{put-nil, put-more}
 use denote.Ref.{now}
 use lib.Seq.{take-length}
 use lib.ListN.{length, take, getD, length-set}
 use Prim.Native.Nat.{_+_, _-_, _≤_}
 use mathlib.Core.Path.{_≡_, refl, sym, _∙_}
-use Rattle.wire.proofs.buffer.put_in.Statement.{statement}
-use Rattle.wire.proofs.buffer.put_in.Tie as tie
+use Rattle.buffer.proofs.write.put_in.Statement.{statement}
+use Rattle.buffer.proofs.write.put_in.Tie as tie
 
 abbrev Inv-loop : tie.InvT-loop
 Inv-loop buffer₀ at part i₀ buffer i = (i ≤ length part) × (length buffer ≡ length buffer₀) × (buffer ≡ put buffer₀ at (take i part))

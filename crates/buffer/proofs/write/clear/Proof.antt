@@ -1,13 +1,13 @@
 -- `clear`: the loop leaves zeros from one place up to another.
 use native.Mathlib.Omega.{arith}
 use Rattle.wire.specs.Numbers.{put}
 use Rattle.wire.proofs.PutLaws.{put-nil, put-zeros}
 use denote.Ref.{now}
 use lib.ListN.{length, replicate, length-set}
 use Prim.Native.Nat.{_+_, _-_, _≤_}
 use mathlib.Core.Path.{_≡_, refl, sym, _∙_}
-use Rattle.wire.proofs.buffer.clear.Statement.{statement}
-use Rattle.wire.proofs.buffer.clear.Tie as tie
+use Rattle.buffer.proofs.write.clear.Statement.{statement}
+use Rattle.buffer.proofs.write.clear.Tie as tie
 
 abbrev Inv-loop : tie.InvT-loop
 Inv-loop buffer₀ at end n i₀ buffer i = (i ≤ n) × (length buffer ≡ length buffer₀) × (buffer ≡ put buffer₀ at (replicate i 0))

@@ -2,11 +2,11 @@
 use native.Mathlib.Omega.{arith}
 use Prim.Native.Nat.{_-_, _≤_}
 use mathlib.Core.Path.{_≡_, sym, _∙_}
 use Rattle.wire.proofs.ScanLaws.{part, zero-skip, zero-hit, zero-end}
 use Rattle.wire.specs.Zeros.{allZero}
 use borrow.Author.Needs.{needs}
-use Rattle.wire.proofs.zeros.zeros.Statement.{statement}
-use Rattle.wire.proofs.zeros.zeros.Tie as tie
+use Rattle.buffer.proofs.zeros.zeros.Statement.{statement}
+use Rattle.buffer.proofs.zeros.zeros.Tie as tie
 
 abbrev Inv-loop : tie.InvT-loop
 Inv-loop s from to at₀ at = (at ≤ to) × (allZero (part s from to) ≡ allZero (part s at to))
