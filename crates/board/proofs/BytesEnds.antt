@@ -16,18 +16,18 @@ use Rattle.record.specs.Layout.{atPendingLength, recordOf}
 use Rattle.record.specs.Form.{formOf}
 use Rattle.record.specs.InPlace.{Sound}
 use Rattle.record.specs.declared.Form.the-variants.{Good, Bad}
-use Rattle.hunt.specs.Hunt.{huntOf, roomFor}
+use Rattle.command.specs.Hunt.{huntOf, roomFor}
 use Rattle.hunt.specs.Progress.{Serves}
 use Rattle.call.specs.Outcome.{noCounts, refused, Leaves}
 use Rattle.call.proofs.InOrder.{left}
-use Rattle.board.specs.Calls.{afterBytes, bytesCall}
+use Rattle.call.specs.Calls.{afterBytes, bytesCall}
 use Rattle.call.specs.declared.Answer.{Answer}
 use Rattle.hunt.specs.declared.Counts.{Counts}
 use Rattle.call.specs.declared.Ending.the-variants.{BadRecord, BadLength, NoRoom}
-use Rattle.board.proofs.Unfolded.{bytes-by}
-use Rattle.board.proofs.Ends.{good-sound}
+use Rattle.call.proofs.Unfolded.{bytes-by}
+use Rattle.call.proofs.Ends.{good-sound}
 use Rattle.hunt.proofs.JoinLaws.{held-is}
-use Rattle.hunt.proofs.Room.{room-enough}
+use Rattle.command.proofs.Room.{room-enough}
 
 -- the counts of a call fit: no more written than room was asked for, no more skipped than was there
 skipped-most : (r : Record) (input : List ℕ) → huntOf r input .skipped ≤ length (r .pending) + length input

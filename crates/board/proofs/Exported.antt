@@ -8,7 +8,7 @@ use denote.Triple.Clauses.{AtExit}
 use borrow.Fn.Kinds.{PK, RK, In, Out, Dens, resT, endedOf}
 use Rattle.call.specs.Outcome.{Outcome, Allows}
 use Rattle.call.proofs.InOrder.{allowed-is}
-use Rattle.board.specs.Calls.{factoryCall, powerOnCall, bytesCall, samplesCall}
+use Rattle.call.specs.Calls.{factoryCall, powerOnCall, bytesCall, samplesCall}
 use Rattle.board.proofs.factory.board_factory.Reads as factory
 use Rattle.board.proofs.factory.board_factory.Kinds as factory-kinds
 use Rattle.board.proofs.power_on.board_power_on.Reads as power-on

@@ -1,6 +1,2 @@
-pub mod Unfolded
-pub mod Ends
-pub mod Empty
-pub mod SampleEnds
 pub mod BytesEnds
 pub mod Exported

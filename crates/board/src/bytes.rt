@@ -1,6 +1,6 @@
 // Bytes: received bytes in, replies out.
 ghost use Rattle.call.specs.Outcome.{Leaves};
-ghost use Rattle.board.specs.Calls.{bytesCall};
+ghost use Rattle.call.specs.Calls.{bytesCall};
 use call::Answer;
 use call::Ending;
 use call::ended;

@@ -1,7 +1,7 @@
 // Factory: a new record over any bytes.
 ghost use mathlib.Core.List.{[]};
 ghost use Rattle.call.specs.Outcome.{Leaves};
-ghost use Rattle.board.specs.Calls.{factoryCall};
+ghost use Rattle.call.specs.Calls.{factoryCall};
 use call::Answer;
 use call::Ending;
 use call::ended;

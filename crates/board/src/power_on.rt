@@ -1,7 +1,7 @@
 // Power-on: the record as it is after a power cycle.
 ghost use mathlib.Core.List.{[]};
 ghost use Rattle.call.specs.Outcome.{Leaves};
-ghost use Rattle.board.specs.Calls.{powerOnCall};
+ghost use Rattle.call.specs.Calls.{powerOnCall};
 use call::Answer;
 use call::Ending;
 use call::ended;

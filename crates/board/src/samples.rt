@@ -5,7 +5,7 @@ ghost use lib.ListN.{length};
 ghost use Rattle.wire.specs.Numbers.{put};
 ghost use Rattle.record.specs.Layout.{channels};
 ghost use Rattle.call.specs.Outcome.{Leaves};
-ghost use Rattle.board.specs.Calls.{sampleSize, measuringSize, measuringFrame, samplesCall};
+ghost use Rattle.call.specs.Calls.{sampleSize, measuringSize, measuringFrame, samplesCall};
 use buffer::write::put_in;
 use call::Answer;
 use call::Ending;

@@ -1,1 +1,5 @@
 pub mod InOrder
+pub mod Unfolded
+pub mod Ends
+pub mod SampleEnds
+pub mod Empty

@@ -1,2 +1,3 @@
 pub mod Outcome
 pub mod Reasons
+pub mod Calls

@@ -5,3 +5,5 @@ pub mod Compare
 pub mod Keep
 pub mod Admitted
 pub mod Shared
+pub mod Kept
+pub mod Room

@@ -3,3 +3,4 @@ pub mod Effects
 pub mod Judge
 pub mod Step
 pub mod Compare
+pub mod Hunt

@@ -35,7 +35,7 @@ use Rattle.command.specs.Judge.{statusOf, byNumber, judged}
 use Rattle.command.specs.Effects.{effectOf, dataOf}
 use Rattle.command.specs.Step.{stepOf, leftBy, settled, onPiece}
 use Rattle.command.proofs.Refused.{verdict-is, verdict, step-is, passed, takes-effect, refused-silent}
-use Rattle.hunt.specs.Hunt.{huntOf, recordAfter}
+use Rattle.command.specs.Hunt.{huntOf, recordAfter}
 use Rattle.demands.specs.AsListed.{number, Legal, FrameAsListed, BeforeReading, announced, SixLines, InTurn, ReadingTaken, OtherCalls, AnswersAsListed}
 use Rattle.demands.proofs.FactoryLaws.{factory-done}
 use Rattle.demands.proofs.PowerOnLaws.{power-on-done}

@@ -14,7 +14,7 @@ use Rattle.record.specs.Layout.{atFlags, bytesOf, recordOf}
 use Rattle.record.specs.Births.{factory}
 use Rattle.call.specs.Outcome.{Outcome}
 use Rattle.call.proofs.InOrder.{allowed-is}
-use Rattle.board.specs.Calls.{bytesCall}
+use Rattle.call.specs.Calls.{bytesCall}
 use Rattle.demands.specs.CallList.{BytesIn}
 use Rattle.demands.specs.Examples.{openFrame}
 use Rattle.demands.specs.Boards.{Board, OneFrame, RefusesAll, SaysDone, DoesNothing, Starts, FirstOnly, InventsCount, ShutOut, WrongShutOut, KindsExist}

@@ -18,15 +18,15 @@ use Rattle.record.specs.Layout.{recordOf}
 use Rattle.record.specs.Form.{wellFormed}
 use Rattle.record.proofs.RoundTrip.{in-range}
 use Rattle.command.specs.Step.{onPiece}
-use Rattle.hunt.specs.Hunt.{huntFrom, huntOf, recordAfter, roomFor}
-use Rattle.hunt.proofs.Kept.{hunt-in}
-use Rattle.hunt.proofs.Room.{room-enough}
+use Rattle.command.specs.Hunt.{huntFrom, huntOf, recordAfter, roomFor}
+use Rattle.command.proofs.Kept.{hunt-in}
+use Rattle.command.proofs.Room.{room-enough}
 use Rattle.call.specs.declared.Ending.the-variants.{BadLength, NoRoom}
 use Rattle.call.specs.Outcome.{Outcome, cause, done}
 use Rattle.call.specs.Reasons.{NoReason}
 use Rattle.call.proofs.InOrder.{None, SameCauses, none-left}
-use Rattle.board.specs.Calls.{bytesCauses, afterBytes, bytesCall}
-use Rattle.board.proofs.Unfolded.{bytes-by}
+use Rattle.call.specs.Calls.{bytesCauses, afterBytes, bytesCall}
+use Rattle.call.proofs.Unfolded.{bytes-by}
 use Rattle.demands.specs.Premise.{SameButCode, QuietRun, Alike}
 use Rattle.demands.specs.CallList.{bytesReasons, bytesEntry}
 use Rattle.demands.proofs.Tests.{formed, malformed, below}

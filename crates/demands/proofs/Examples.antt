@@ -2,7 +2,7 @@
 use mathlib.Core.Path.{refl}
 use Rattle.record.specs.Layout.{bytesOf, recordOf}
 use Rattle.record.specs.Births.{factory}
-use Rattle.board.specs.Calls.{bytesCall}
+use Rattle.call.specs.Calls.{bytesCall}
 use Rattle.demands.specs.Examples.{starred, ExamplesHold}
 
 pub starred-hold : ExamplesHold starred

@@ -12,8 +12,8 @@ use Rattle.record.specs.Births as births
 use Rattle.record.proofs.Births.{factory-in}
 use Rattle.call.specs.declared.Ending.the-variants.{BadRecord}
 use Rattle.call.specs.Outcome.{done, cause}
-use Rattle.board.specs.Calls.{factoryCauses, factoryCall}
-use Rattle.board.proofs.Unfolded.{factory-by}
+use Rattle.call.specs.Calls.{factoryCauses, factoryCall}
+use Rattle.call.proofs.Unfolded.{factory-by}
 use Rattle.demands.specs.CallList.{factoryEntry}
 use Rattle.demands.proofs.Tests.{other}
 use Rattle.demands.proofs.OtherCode.{same-own}

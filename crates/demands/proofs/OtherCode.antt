@@ -18,7 +18,7 @@ use Rattle.record.proofs.RoundTrip.{read-back, well-formed, in-range, write-bac
 use Rattle.record.proofs.Whole.{code-in}
 use Rattle.call.specs.declared.Ending.the-variants.{BadRecord}
 use Rattle.call.specs.Outcome.{done, cause, bad}
-use Rattle.board.proofs.Ends.{form-good, good-long}
+use Rattle.call.proofs.Ends.{form-good, good-long}
 use Rattle.demands.specs.Premise.{SameButCode, Alike}
 
 -- ---- bytes of a record and of the same with another code

@@ -10,8 +10,8 @@ use Rattle.record.specs.Births.{poweredOn}
 use Rattle.record.proofs.RoundTrip.{in-range}
 use Rattle.record.proofs.Births.{power-on-in}
 use Rattle.call.specs.Outcome.{done}
-use Rattle.board.specs.Calls.{powerOnCauses, powerOnCall}
-use Rattle.board.proofs.Unfolded.{power-on-by}
+use Rattle.call.specs.Calls.{powerOnCauses, powerOnCall}
+use Rattle.call.proofs.Unfolded.{power-on-by}
 use Rattle.demands.specs.Premise.{Alike}
 use Rattle.demands.specs.CallList.{Malformed, powerOnEntry}
 use Rattle.demands.proofs.Tests.{formed, malformed}

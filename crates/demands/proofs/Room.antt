@@ -6,11 +6,11 @@ use lib.ListN.{length}
 use Rattle.wire.specs.Numbers.{Bytes}
 use Rattle.record.specs.Layout.{recordOf}
 use Rattle.record.proofs.RoundTrip.{in-range}
-use Rattle.hunt.specs.Hunt.{roomFor}
-use Rattle.hunt.proofs.Room.{room-enough, most-room}
+use Rattle.command.specs.Hunt.{roomFor}
+use Rattle.command.proofs.Room.{room-enough, most-room}
 use Rattle.call.specs.Reasons.{NoReason}
-use Rattle.board.specs.Calls.{bytesCall}
-use Rattle.board.proofs.Empty.{empty-input, idle-room}
+use Rattle.call.specs.Calls.{bytesCall}
+use Rattle.call.proofs.Empty.{empty-input, idle-room}
 use Rattle.demands.specs.CallList.{BytesIn, bytesReasons}
 use Rattle.demands.specs.Room.{Room}
 use Rattle.demands.proofs.Tests.{well}

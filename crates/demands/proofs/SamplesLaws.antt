@@ -14,8 +14,8 @@ use Rattle.record.proofs.RoundTrip.{in-range}
 use Rattle.record.proofs.Reading.{reading-in}
 use Rattle.call.specs.declared.Ending.the-variants.{BadLength, NoRoom, NotFinite}
 use Rattle.call.specs.Reasons.{NoReason}
-use Rattle.board.specs.Calls.{sampleSize, measuringSize, measuringFrame, afterSample, samplesCauses, samplesCall}
-use Rattle.board.proofs.Unfolded.{samples-by}
+use Rattle.call.specs.Calls.{sampleSize, measuringSize, measuringFrame, afterSample, samplesCauses, samplesCall}
+use Rattle.call.proofs.Unfolded.{samples-by}
 use Rattle.demands.specs.Premise.{Alike}
 use Rattle.demands.specs.CallList.{samplesReasons, samplesEntry}
 use Rattle.demands.proofs.Tests.{formed, malformed, below, other, stray}

@@ -12,7 +12,7 @@ use Rattle.record.specs.Layout.{atTries, atCode, bytesOf, recordOf}
 use Rattle.record.specs.Births.{factory}
 use Rattle.command.specs.Compare.{compares}
 use Rattle.command.proofs.Compare.{compares-exactly}
-use Rattle.board.specs.Calls.{bytesCall, samplesCall}
+use Rattle.call.specs.Calls.{bytesCall, samplesCall}
 use Rattle.demands.specs.Premise.{ComparedExactly}
 use Rattle.demands.specs.CallList.{Made, callOf, outcomeOf}
 use Rattle.demands.specs.Secrecy.{thirdCode, AllQuiet, OneCall, NothingTold, NoReset, NothingToldUsedUp, PremiseMet, PremiseNeeded}

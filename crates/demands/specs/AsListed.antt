@@ -33,7 +33,7 @@ use Rattle.command.specs.Effects.{effectOf, dataOf}
 use Rattle.command.specs.Step.{stepOf, onPiece}
 use Rattle.call.specs.Outcome.{done}
 use Rattle.call.specs.Reasons.{NoReason}
-use Rattle.board.specs.Calls.{factoryCall, powerOnCall, bytesCall, measuringFrame, afterSample, samplesCall}
+use Rattle.call.specs.Calls.{factoryCall, powerOnCall, bytesCall, measuringFrame, afterSample, samplesCall}
 use Rattle.demands.specs.CallList.{Malformed, bytesReasons, samplesReasons}
 
 -- ---- one frame f, on a board with the record r

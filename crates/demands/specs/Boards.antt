@@ -9,7 +9,7 @@ use Rattle.wire.specs.Frames.{Whole, cut}
 use Rattle.wire.specs.Serial.{serial}
 use Rattle.record.specs.Layout.{recordOf}
 use Rattle.call.specs.Outcome.{Outcome, Allows}
-use Rattle.board.specs.Calls.{bytesCall}
+use Rattle.call.specs.Calls.{bytesCall}
 
 -- whatever takes a record, an input and an output buffer and leaves an outcome
 abbrev pub Board : Type 0

@@ -14,7 +14,7 @@ use Rattle.record.specs.Form.{wellFormed}
 use Rattle.call.specs.declared.Ending.the-variants.{BadRecord, BadLength, NoRoom, NotFinite}
 use Rattle.call.specs.Outcome.{Outcome}
 use Rattle.call.specs.Reasons.{Reason, reason}
-use Rattle.board.specs.Calls.{factoryCall, powerOnCall, bytesCall, samplesCall}
+use Rattle.call.specs.Calls.{factoryCall, powerOnCall, bytesCall, samplesCall}
 use Rattle.demands.specs.Premise.{QuietRun}
 
 pub record Call : Type 1 where

@@ -9,7 +9,7 @@ use Rattle.wire.specs.Numbers.{signed16}
 use Rattle.record.specs.Layout.{bytesOf, recordOf}
 use Rattle.record.specs.Births.{factory}
 use Rattle.call.specs.Outcome.{Outcome}
-use Rattle.board.specs.Calls.{bytesCall}
+use Rattle.call.specs.Calls.{bytesCall}
 
 -- what a row says of the board afterwards
 pub data Fact : Type 0 where

@@ -8,4 +8,3 @@ pub mod Stored
 pub mod AsListed
 pub mod Boards
 pub mod Secrecy
-pub mod Demands

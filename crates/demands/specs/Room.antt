@@ -5,11 +5,11 @@ use mathlib.Core.List.{List, []}
 use lib.ListN.{length}
 use Rattle.wire.specs.Numbers.{Bytes}
 use Rattle.record.specs.Layout.{recordOf}
-use Rattle.hunt.specs.Hunt.{roomFor}
+use Rattle.command.specs.Hunt.{roomFor}
 use Rattle.call.specs.declared.Ending.the-variants.{Done}
 use Rattle.call.specs.Outcome.{noCounts}
 use Rattle.call.specs.Reasons.{NoReason}
-use Rattle.board.specs.Calls.{bytesCall}
+use Rattle.call.specs.Calls.{bytesCall}
 use Rattle.demands.specs.CallList.{bytesReasons}
 
 pub record Room : Type 0 where

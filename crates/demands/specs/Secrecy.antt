@@ -10,7 +10,7 @@ use Rattle.record.specs.Record.{withTries, withCode}
 use Rattle.record.specs.Layout.{atTries, bytesOf, recordOf}
 use Rattle.record.specs.Births.{factory}
 use Rattle.command.specs.Compare.{compares}
-use Rattle.board.specs.Calls.{bytesCall, samplesCall}
+use Rattle.call.specs.Calls.{bytesCall, samplesCall}
 use Rattle.demands.specs.Premise.{SameButCode, Alike}
 use Rattle.demands.specs.CallList.{BytesIn, SamplesIn, callOf, Made, outcomeOf}
 use Rattle.demands.specs.Examples.{rightCode, denied}

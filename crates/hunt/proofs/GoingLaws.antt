@@ -17,7 +17,7 @@ use Rattle.record.specs.InPlace.{Sound}
 use Rattle.record.proofs.InPlaceLaws.{holds-is, holds-sound, holds-long}
 use Rattle.command.specs.Step.{stepOf}
 use Rattle.carry.specs.Carry.{Carries}
-use Rattle.hunt.specs.Hunt.{roomFor}
+use Rattle.command.specs.Hunt.{roomFor}
 use Rattle.hunt.specs.Progress.{Going}
 use Rattle.hunt.proofs.SofarLaws.{sofar-start, sofar-pass, sofar-tear, sofar-long, sofar-room, sofar-take}
 

@@ -6,7 +6,7 @@ use native.Mathlib.Omega.{arith}
 use lib.ListN.{length, getD, take, drop, length-append, length-drop}
 use lib.Seq.{take-at, take-all, length-take-le, take-take}
 use Rattle.wire.specs.Sizes.{frameMost, waitMost, joinMost}
-use Rattle.hunt.specs.Hunt.{roomFor}
+use Rattle.command.specs.Hunt.{roomFor}
 use Rattle.wire.specs.Numbers.{put}
 use Rattle.wire.specs.Frames.{Heads}
 use Rattle.wire.specs.Replies.{Reply}

@@ -24,7 +24,7 @@ use Rattle.record.specs.Layout.{bytesOf, recordOf}
 use Rattle.record.specs.InPlace.{Turns}
 use Rattle.record.proofs.InPlaceLaws.{holds-is}
 use Rattle.command.specs.Step.{onPiece}
-use Rattle.hunt.specs.Hunt.{huntOf, recordAfter, roomFor}
+use Rattle.command.specs.Hunt.{huntOf, recordAfter, roomFor}
 use Rattle.hunt.specs.Progress.{Hunts, Serves}
 use Rattle.hunt.specs.declared.Progress.{Progress}
 use Rattle.hunt.specs.declared.Counts.{Counts}

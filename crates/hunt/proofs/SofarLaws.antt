@@ -16,7 +16,7 @@ use Rattle.wire.proofs.AlongLaws.{along-start, along-pass, along-tear, along-ta
 use Rattle.record.specs.Record.{Record}
 use Rattle.command.specs.Step.{stepOf, onPiece}
 use Rattle.carry.specs.Carry.{Carries}
-use Rattle.hunt.specs.Hunt.{roomFor}
+use Rattle.command.specs.Hunt.{roomFor}
 use Rattle.hunt.specs.Progress.{Sofar}
 
 module _ (heads : Heads) (r : Record) (l before : List ℕ) (start : ℕ) where

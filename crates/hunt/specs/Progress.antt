@@ -13,7 +13,7 @@ use Rattle.record.specs.Record.{Record, withPending}
 use Rattle.record.specs.Layout.{bytesOf}
 use Rattle.record.specs.InPlace.{Holds, Turns}
 use Rattle.command.specs.Step.{onPiece}
-use Rattle.hunt.specs.Hunt.{huntOf, recordAfter, roomFor}
+use Rattle.command.specs.Hunt.{huntOf, recordAfter, roomFor}
 use Rattle.hunt.specs.declared.Progress.{Progress}
 use Rattle.hunt.specs.declared.Counts.{Counts}
 

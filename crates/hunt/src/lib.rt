@@ -6,7 +6,7 @@ ghost use Rattle.wire.specs.Sizes.{frameMost, waitMost, inputMost, streamMost, 
 ghost use Rattle.wire.specs.Serial.{headsOf};
 ghost use Rattle.record.specs.Layout.{pendingRoom, recordOf};
 ghost use Rattle.record.specs.InPlace.{Sound};
-ghost use Rattle.hunt.specs.Hunt.{roomFor};
+ghost use Rattle.command.specs.Hunt.{roomFor};
 ghost use Rattle.hunt.specs.Progress.{Hunts, Rests, Joins, Serves};
 use buffer::write::put_in;
 use carry::carry;

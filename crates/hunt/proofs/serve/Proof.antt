@@ -6,7 +6,7 @@ use mathlib.Core.Path.{_≡_, refl, sym, subst}
 use mathlib.Core.List.{List}
 use lib.ListN.{length, getD, take, drop}
 use Rattle.wire.specs.Sizes.{frameMost, waitMost}
-use Rattle.hunt.specs.Hunt.{roomFor}
+use Rattle.command.specs.Hunt.{roomFor}
 use Rattle.record.specs.Layout.{pendingRoom, atPendingLength, recordOf}
 use Rattle.record.specs.InPlace.{Sound}
 use Rattle.record.proofs.InPlaceLaws.{holds-long}

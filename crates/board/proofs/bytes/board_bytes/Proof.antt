@@ -1,6 +1,6 @@
 -- `board_bytes`: the bytes call leaves its outcome, whichever check refuses it or none.
 use native.Mathlib.Omega.{arith}
-use Rattle.board.proofs.Ends.{good-long, good-sound}
+use Rattle.call.proofs.Ends.{good-long, good-sound}
 use Rattle.hunt.proofs.JoinLaws.{held-is, held-few, held-fits}
 use Rattle.board.proofs.BytesEnds.{served-small, bytes-bad-record, bytes-bad-length, bytes-no-room, bytes-done}
 use Prim.Native.Nat.{ℕ}

@@ -1,5 +1,5 @@
 -- `board_factory`: factory leaves its outcome, by the length alone.
-use Rattle.board.proofs.Ends.{factory-refuses, factory-ends}
+use Rattle.call.proofs.Ends.{factory-refuses, factory-ends}
 use borrow.Author.Needs.{needs}
 use Rattle.board.proofs.factory.board_factory.Statement.{statement}
 use Rattle.board.proofs.factory.board_factory.Tie as tie

@@ -1,6 +1,6 @@
 -- `board_power_on`: power-on leaves its outcome, by the record's form.
 use native.Mathlib.Omega.{arith}
-use Rattle.board.proofs.Ends.{power-on-refuses, power-on-ends, good-sound}
+use Rattle.call.proofs.Ends.{power-on-refuses, power-on-ends, good-sound}
 use mathlib.Core.Path.{sym, _∙_}
 use borrow.Author.Needs.{needs}
 use Rattle.board.proofs.power_on.board_power_on.Statement.{statement}

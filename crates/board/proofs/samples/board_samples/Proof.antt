@@ -5,8 +5,8 @@ use borrow.Author.Tests.{not-true, not-false}
 use Rattle.peak.specs.Pairs.{allFinite}
 use Rattle.record.specs.Form.{formOf}
 use Rattle.record.specs.declared.Form.the-variants.{Good}
-use Rattle.board.proofs.Ends.{good-sound}
-use Rattle.board.proofs.SampleEnds.{bad-record, bad-length, no-room, not-finite, silent, sent}
+use Rattle.call.proofs.Ends.{good-sound}
+use Rattle.call.proofs.SampleEnds.{bad-record, bad-length, no-room, not-finite, silent, sent}
 use borrow.Author.Needs.{needs}
 use Rattle.board.proofs.samples.board_samples.Statement.{statement}
 use Rattle.board.proofs.samples.board_samples.Tie as tie

@@ -14,9 +14,9 @@ use Rattle.record.specs.Layout.{recordSize, channels, bytesOf, recordOf}
 use Rattle.record.specs.Form.{wellFormed, formOf}
 use Rattle.record.specs.Births.{factory, poweredOn}
 use Rattle.record.specs.Reading.{readingOf}
-use Rattle.hunt.specs.Hunt.{huntOf, recordAfter, roomFor}
+use Rattle.command.specs.Hunt.{huntOf, recordAfter, roomFor}
 use Rattle.call.specs.declared.Ending.the-variants.{BadRecord, BadLength, NoRoom, NotFinite}
 use Rattle.call.specs.Outcome.{Outcome, done, Cause, cause, bad, inOrder}
 
 -- ---- factory and power-on
 
@@ -67,7 +67,7 @@ sampleSize = 4 * channels
 abbrev pub measuringSize : ℕ
 measuringSize = 4 + sampleSize
 
--- "AA 15 B0, the 24 bytes, 85": a measuring frame of n channels, whose second byte is 15 at six; `six-channels` of board/proofs/SampleEnds shows it at six
+-- "AA 15 B0, the 24 bytes, 85": a measuring frame of n channels, whose second byte is 15 at six; `six-channels` of call/proofs/SampleEnds shows it at six
 abbrev pub measuringFrame : ℕ → List ℕ → List ℕ
 measuringFrame n sample = 0xAA ∷ (0x0F + n) ∷ 0xB0 ∷ bytesAt (4 * n) sample 0 ++ (0x85 ∷ [])
 

@@ -15,9 +15,9 @@ use Rattle.wire.proofs.CutLaws.{Fair, frames, conserved, pieces-fair}
 use Rattle.wire.proofs.ReplyLaws.{reply-bounds, length-none, length-cons}
 use Rattle.record.specs.Record.{Record}
 use Rattle.record.specs.Form.{InRange}
 use Rattle.command.specs.Step.{stepOf, onPiece}
 use Rattle.command.proofs.Keep.{step-in, reply-short}
-use Rattle.hunt.specs.Hunt.{huntOf, roomFor}
+use Rattle.command.specs.Hunt.{huntOf, roomFor}
 
 -- each frame has at least four bytes
 four : (ps : List Piece) → All Fair ps → 4 * frames ps ≤ sizes ps

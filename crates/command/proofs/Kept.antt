@@ -13,9 +13,9 @@ use Rattle.wire.proofs.CutLaws.{Fair, cut-waits, cut-bytes, pieces-fair}
 use Rattle.wire.proofs.RunLaws.{runs-keep}
 use Rattle.record.specs.Record.{Record, withPending}
 use Rattle.record.specs.Form.{InRange}
 use Rattle.command.specs.Step.{onPiece}
 use Rattle.command.proofs.Keep.{step-in}
-use Rattle.hunt.specs.Hunt.{huntOf, recordAfter}
+use Rattle.command.specs.Hunt.{huntOf, recordAfter}
 
 answer-in : (r : Record) (p : Piece) → Fair p → InRange r → InRange (onPiece r p .state)
 answer-in r (Whole f) h i = step-in r f (h .1) i

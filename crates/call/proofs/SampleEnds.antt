@@ -12,12 +12,12 @@ use Rattle.record.specs.Layout.{channels, bytesOf, recordOf}
 use Rattle.record.specs.Form.{formOf}
 use Rattle.record.specs.Reading.{readingOf}
 use Rattle.record.specs.declared.Form.the-variants.{Good, Bad}
 use Rattle.call.specs.declared.Answer.{Answer}
 use Rattle.call.specs.declared.Ending.the-variants.{Done, BadRecord, BadLength, NoRoom, NotFinite}
 use Rattle.call.specs.Outcome.{noCounts, refused, done, Leaves}
 use Rattle.call.proofs.InOrder.{left}
-use Rattle.board.specs.Calls.{sampleSize, measuringSize, measuringFrame, samplesCall}
-use Rattle.board.proofs.Unfolded.{samples-by}
+use Rattle.call.specs.Calls.{sampleSize, measuringSize, measuringFrame, samplesCall}
+use Rattle.call.proofs.Unfolded.{samples-by}
 
 module _ (s sample o : List ℕ) (a : Answer) where
   pub bad-record : formOf s ≡ Bad → a ≡ noCounts BadRecord → Leaves (samplesCall s sample o) a s o

@@ -16,12 +16,12 @@ use Rattle.record.specs.Births.{factory, poweredOn}
 use Rattle.record.specs.InPlace.{Sound, Turns}
 use Rattle.record.specs.declared.Form.the-variants.{Good, Bad}
 use Rattle.record.proofs.RoundTrip.{in-range, write-back}
 use Rattle.call.specs.declared.Answer.{Answer}
 use Rattle.call.specs.declared.Ending.the-variants.{Done, BadRecord}
 use Rattle.call.specs.Outcome.{noCounts, refused, Leaves}
 use Rattle.call.proofs.InOrder.{left}
-use Rattle.board.specs.Calls.{factoryCall, powerOnCall}
-use Rattle.board.proofs.Unfolded.{factory-by, power-on-by}
+use Rattle.call.specs.Calls.{factoryCall, powerOnCall}
+use Rattle.call.proofs.Unfolded.{factory-by, power-on-by}
 
 -- ---- what the check's answer says of the bytes
 

@@ -1,16 +1,16 @@
 -- The whole claim on one page: what each field says stands in the module that it comes from.
 use Rattle.board.proofs.Exported.{AllExported}
 use Rattle.demands.specs.Unique.{Unique}
 use Rattle.demands.specs.EndsProperly.{EndsProperly}
 use Rattle.demands.specs.Room.{Room}
 use Rattle.demands.specs.Stored.{Stored}
 use Rattle.demands.specs.AsListed.{AnswersAsListed}
 use Rattle.demands.specs.Boards.{WrongShutOut, KindsExist}
 use Rattle.demands.specs.Examples.{starred, ExamplesHold}
 use Rattle.demands.specs.Premise.{ComparedExactly}
 use Rattle.demands.specs.Secrecy.{OneCall, NothingTold, NothingToldUsedUp, PremiseMet, PremiseNeeded}
 
-pub record Demands : Type 1 where
+pub record Claim : Type 1 where
   -- the contracts as they are exported, and that each allows one outcome
   pub exported : AllExported
   pub unique : Unique

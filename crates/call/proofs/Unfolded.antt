@@ -4,9 +4,9 @@ use mathlib.Core.Path.{_≡_, refl}
 use mathlib.Core.List.{List, []}
 use Rattle.record.specs.Layout.{recordOf}
 use Rattle.record.specs.Births.{factory, poweredOn}
-use Rattle.hunt.specs.Hunt.{huntOf}
+use Rattle.command.specs.Hunt.{huntOf}
 use Rattle.call.specs.Outcome.{done, inOrder}
-use Rattle.board.specs.Calls.{factoryCauses, factoryCall, powerOnCauses, powerOnCall, bytesCauses, afterBytes, bytesCall, samplesCauses, afterSample, samplesCall}
+use Rattle.call.specs.Calls.{factoryCauses, factoryCall, powerOnCauses, powerOnCall, bytesCauses, afterBytes, bytesCall, samplesCauses, afterSample, samplesCall}
 
 pub factory-by : (s : List ℕ) → factoryCall s ≡ inOrder (factoryCauses s) s [] (done factory [] 0 [])
 unfolding factoryCall

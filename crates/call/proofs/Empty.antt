@@ -17,12 +17,12 @@ use Rattle.record.specs.Layout.{recordOf}
 use Rattle.record.specs.Form.{InRange, wellFormed}
 use Rattle.record.proofs.RoundTrip.{in-range, write-back}
 use Rattle.command.specs.Step.{onPiece}
-use Rattle.hunt.specs.Hunt.{huntOf, recordAfter, roomFor}
+use Rattle.command.specs.Hunt.{huntOf, recordAfter, roomFor}
 use Rattle.call.specs.declared.Ending.the-variants.{Done}
 use Rattle.call.specs.Outcome.{refused}
-use Rattle.board.specs.Calls.{bytesCall}
-use Rattle.board.proofs.Unfolded.{bytes-by}
-use Rattle.board.proofs.Ends.{form-good}
+use Rattle.call.specs.Calls.{bytesCall}
+use Rattle.call.proofs.Unfolded.{bytes-by}
+use Rattle.call.proofs.Ends.{form-good}
 
 -- nothing new: what waited waits
 idle : (r : Record) → InRange r → huntOf r [] ≡ record { state = r; said = []; skipped = 0; waiting = r .pending }
