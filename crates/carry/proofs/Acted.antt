@@ -4,7 +4,7 @@ use mathlib.Core.Path.{_≡_, refl, sym, ap, _∙_}
 use mathlib.Core.List.{List, []}
 use native.Mathlib.Omega.{arith}
 use lib.ListN.{length, getD, take, drop}
-use Rattle.wire.specs.Sizes.{frameMost}
+use Rattle.wire.specs.Sizes.{dataMost, frameMost}
 use Rattle.wire.specs.Numbers.{Bytes, put}
 use Rattle.wire.specs.Serial.{headOf, numberOf, paramsOf}
 use Rattle.wire.specs.Replies.{Reply, kindOf, replyBytes, around}
@@ -83,7 +83,7 @@ module _ (r : Record) (f before : List ℕ) (at : ℕ) (v : Verdict) (kept : Lis
   held-is : Holds (stepOf r f .after) kept
   held-is = rw (step-by r f, ← (part-is f)) (acts .held)
 
-  replied : (a : Reply) (n end : ℕ) (after : List ℕ) → stepOf r f .reply ≡ a → length (a .body) ≡ n → n ≤ 15 → end ≡ at + 4 + n → after ≡ put before at (replyBytes a) → Carries r f before at end kept after
+  replied : (a : Reply) (n end : ℕ) (after : List ℕ) → stepOf r f .reply ≡ a → length (a .body) ≡ n → n ≤ dataMost → end ≡ at + 4 + n → after ≡ put before at (replyBytes a) → Carries r f before at end kept after
   replied a n end after e m k q o =
       let w : length (replyBytes a) ≡ 4 + n = length-reply a ∙ rw m refl in
       record { held = held-is; ends = rw (e, w) (omega arith); small = omega arith; bytes = rw e o }

@@ -7,8 +7,9 @@ use native.Mathlib.Nat.{le-trans}
 use native.Mathlib.Omega.{arith}
 use borrow.Author.Tests.{leb-true, leb-false, ltb-true}
 use lib.ListN.{length, getD, drop, set, length-set, length-append}
+use Rattle.wire.specs.Sizes.{dataMost}
 use Rattle.wire.proofs.NumberLaws.{bytes-take, bytes-drop}
-use Rattle.record.proofs.Parts.{cut-le, cut-cut, cut-bytes}
+use Rattle.wire.proofs.ZeroLaws.{cut-le, cut-cut, cut-bytes}
 use lib.Dec.{ltb, leb}
 use Rattle.wire.specs.Numbers.{Bytes, halfAt}
 use Rattle.wire.specs.Ranges.{also}
@@ -162,7 +163,7 @@ closed-short m h = go (ltb (length m) 15) refl
     go true e = simp length-append (omega (arith, ltb-true (length m) 15 e))
     go false e = simp length-append (omega arith)
 
-pub data-short : (c : Command) (r : Record) (p : List ℕ) → InRange r → length (dataOf c r p) ≤ 15
+pub data-short : (c : Command) (r : Record) (p : List ℕ) → InRange r → length (dataOf c r p) ≤ dataMost
 unfolding dataOf
 data-short Open r p i = omega arith
 data-short Close r p i = omega arith
@@ -191,9 +192,9 @@ data-short ReadFilter r p i = omega arith
 data-short SetFilter r p i = omega arith
 data-short ReadPair r p i = omega arith
 
-pub reply-short : (r : Record) (f : List ℕ) → InRange r → length (stepOf r f .reply .body) ≤ 15
+pub reply-short : (r : Record) (f : List ℕ) → InRange r → length (stepOf r f .reply .body) ≤ dataMost
 reply-short r f i = rw (step-is r f) (go (verdict r f))
   where
-    go : (v : Verdict) → length (settled r (headOf f) (paramsOf f) v .reply .body) ≤ 15
+    go : (v : Verdict) → length (settled r (headOf f) (paramsOf f) v .reply .body) ≤ dataMost
     go (Do c) = data-short c r (paramsOf f) i
     go (Refuse why) = zero-le

@@ -10,7 +10,7 @@ use Rattle.wire.specs.declared.Range.the-variants.{Fits}
 use Rattle.record.specs.Record.{Record, withFilter}
 use Rattle.record.specs.Layout.{Plan, PowerHalf, has, modelRoom}
 use Rattle.record.specs.Form.{Unless, Silent, InRangeIn}
-use Rattle.record.proofs.Parts.{cut-le, cut-cut, cut-bytes}
+use Rattle.wire.proofs.ZeroLaws.{cut-le, cut-cut, cut-bytes}
 use Rattle.record.proofs.Pieces.{unless-map}
 use Rattle.command.specs.declared.Command.the-variants.{Unlock, SetModel, StopSending, StartSending, SetFilter}
 use Rattle.command.specs.Tables.{rangeIn}

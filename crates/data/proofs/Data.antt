@@ -10,6 +10,7 @@ use lib.ListN.{length, getD, take, drop, set, length-append}
 use lib.Seq.{length-take-le, take-take}
 use lib.Dec.{eqb}
 use borrow.Author.Tests.{lt-ltb, le-ltb}
+use Rattle.wire.specs.Sizes.{dataMost}
 use Rattle.wire.specs.Numbers.{bytesAt, put}
 use Rattle.wire.specs.Zeros.{beforeZero}
 use Rattle.wire.proofs.NumberLaws.{part-is}
@@ -17,7 +18,8 @@ use Rattle.wire.proofs.PutLaws.{put-nil, put-one, put-two, put-four, put-put, p
 use Rattle.record.specs.Record.{Record}
 use Rattle.record.specs.Layout.{recordSize, nameRoom, modelRoom, atNameLength, atName, atInputs, atPower, atFilter, atPairs, bitOf, recordOf}
 use Rattle.record.specs.InPlace.{Sound}
-use Rattle.record.proofs.Parts.{part-at, cut-take, cut-le}
+use Rattle.wire.proofs.ZeroLaws.{cut-take, cut-le}
+use Rattle.record.proofs.Parts.{part-at}
 use Rattle.record.proofs.Lens.{long, get-name-length, get-power-bytes, get-filter-bytes, get-pair-bytes}
 use Rattle.command.specs.declared.Command.{Command}
 use Rattle.command.specs.declared.Command.the-variants.{Open, Close, ReadPower, SetPower, ReadStep, SetStep, ReadMode, SetMode, ReadName, SetName, ReadOnOff, SetOnOff, SetInput, ReadInput, SwitchOutput, SetInterval, ReadInterval, Unlock, ReadLock, ReadModel, SetModel, StopSending, StartSending, ReadFilter, SetFilter, ReadPair}
@@ -106,7 +108,7 @@ pub put-word : (d s : List ℕ) (at from : ℕ) → at + 4 ≤ length d
     → set (set (set (set d at (getD s from 0)) (at + 1) (getD s (from + 1) 0)) (at + 2) (getD s (from + 2) 0)) (at + 3) (getD s (from + 3) 0) ≡ put d at (bytesAt 4 s from)
 put-word d s at from h = put-four d at (getD s from 0) (getD s (from + 1) 0) (getD s (from + 2) 0) (getD s (from + 3) 0) h ∙ simp towards-suc
 
-module _ (d : List ℕ) (at : ℕ) (room : at + 15 ≤ length d) where
+module _ (d : List ℕ) (at : ℕ) (room : at + dataMost ≤ length d) where
   pub answers-none : PutsData d at [] 0 d
   answers-none = (refl, omega arith, sym (put-nil d at))
 
@@ -162,7 +164,7 @@ module _ (s : List ℕ) (from : ℕ) (l : from + modelRoom ≤ length s) (end : 
       let front = take-take (length model) modelRoom (drop from s) (cut-le (bytesAt modelRoom s from)) in
       rw n (sym front ∙ ap (take (length model)) (sym (part-is modelRoom s from l)) ∙ cut-take (bytesAt modelRoom s from))
 
-  module _ (d : List ℕ) (at : ℕ) (room : at + 15 ≤ length d) (x : List ℕ) (copied : x ≡ put d at (take (end - from) (drop from s))) where
+  module _ (d : List ℕ) (at : ℕ) (room : at + dataMost ≤ length d) (x : List ℕ) (copied : x ≡ put d at (take (end - from) (drop from s))) where
     pub answers-cut : end < from + modelRoom → (behind : ℕ) → behind ≡ at + length (take (end - from) (drop from s)) → PutsData d at (modelData model) (end - from + 1) (set x behind 0x00)
     answers-cut h behind e =
         let short : length model < modelRoom = omega (arith, model-end) in

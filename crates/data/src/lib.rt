@@ -4,6 +4,7 @@ ghost use mathlib.Core.Bool.{cond};
 ghost use mathlib.Core.List.{[], _∷_};
 ghost use Prim.Native.Nat.{_+_, _-_, _*_, _≤_};
 ghost use lib.ListN.{length, getD, take};
+ghost use Rattle.wire.specs.Sizes.{dataMost};
 ghost use Rattle.wire.specs.Numbers.{bytesAt, put};
 ghost use Rattle.wire.specs.Zeros.{beforeZero};
 ghost use Rattle.wire.specs.declared.Range.the-variants.{Fits};
@@ -31,7 +32,7 @@ use record::places::BEFORE_INPUTS;
 use record::places::MODEL_ROOM;
 
 fn put_one(out: &mut [u8], at: usize, a: u8) -> usize
-    requires { ⌜ at + 15 ≤ length (now out) ⌝ }
+    requires { ⌜ at + dataMost ≤ length (now out) ⌝ }
     ensures { λ n. ⌜ PutsData (now (out .entry)) at (a ∷ []) n (now (out .exit)) ⌝ }
 {
     out[at] = a;
@@ -39,7 +40,7 @@ fn put_one(out: &mut [u8], at: usize, a: u8) -> usize
 }
 
 fn put_two(out: &mut [u8], at: usize, a: u8, b: u8) -> usize
-    requires { ⌜ at + 15 ≤ length (now out) ⌝ }
+    requires { ⌜ at + dataMost ≤ length (now out) ⌝ }
     ensures { λ n. ⌜ PutsData (now (out .entry)) at (a ∷ b ∷ []) n (now (out .exit)) ⌝ }
 {
     out[at] = a;
@@ -48,7 +49,7 @@ fn put_two(out: &mut [u8], at: usize, a: u8, b: u8) -> usize
 }
 
 fn put_lock(out: &mut [u8], at: usize, flags: u8) -> usize
-    requires { ⌜ at + 15 ≤ length (now out) ⌝ }
+    requires { ⌜ at + dataMost ≤ length (now out) ⌝ }
     ensures { λ n. ⌜ PutsData (now (out .entry)) at (cond (bitOf flags 2) 0x08 0x00 ∷ []) n (now (out .exit)) ⌝ }
 {
     out[at] = flags / 2 % 2 * 8;
@@ -57,7 +58,7 @@ fn put_lock(out: &mut [u8], at: usize, flags: u8) -> usize
 
 // The input type of a channel, 2 to 6.
 fn put_input(out: &mut [u8], at: usize, rec: &[u8], channel: u8) -> usize
-    requires { ⌜ (atInputs + 5 ≤ length (now rec)) × (at + 15 ≤ length (now out)) ⌝ }
+    requires { ⌜ (atInputs + 5 ≤ length (now rec)) × (at + dataMost ≤ length (now out)) ⌝ }
     requires { ⌜ (2 ≤ channel) × (channel ≤ 6) ⌝ }
     ensures { λ n. ⌜ PutsData (now (out .entry)) at (getD (bytesAt 5 (now (rec .entry)) atInputs) (channel - 2) 0 ∷ []) n (now (out .exit)) ⌝ }
 {
@@ -78,7 +79,7 @@ fn put_word(out: &mut [u8], at: usize, rec: &[u8], from: usize)
 
 // The filter word, which stands at a place of the record.
 fn put_filter(out: &mut [u8], at: usize, rec: &[u8], from: usize) -> usize
-    requires { ⌜ (from + 4 ≤ length (now rec)) × (at + 15 ≤ length (now out)) ⌝ }
+    requires { ⌜ (from + 4 ≤ length (now rec)) × (at + dataMost ≤ length (now out)) ⌝ }
     ensures { λ n. ⌜ PutsData (now (out .entry)) at (bytesAt 4 (now (rec .entry)) from) n (now (out .exit)) ⌝ }
 {
     put_word(out, at, rec, from);
@@ -87,7 +88,7 @@ fn put_filter(out: &mut [u8], at: usize, rec: &[u8], from: usize) -> usize
 
 // The pair of a channel, of those that stand from a place on, channel 1 first.
 fn put_pair(out: &mut [u8], at: usize, rec: &[u8], pairs: usize, channel: u8) -> usize
-    requires { ⌜ (pairs + 8 * channel ≤ length (now rec)) × (at + 15 ≤ length (now out)) ⌝ }
+    requires { ⌜ (pairs + 8 * channel ≤ length (now rec)) × (at + dataMost ≤ length (now out)) ⌝ }
     requires { ⌜ 1 ≤ channel ⌝ }
     ensures { λ n. ⌜ PutsData (now (out .entry)) at (0x00 ∷ bytesAt 8 (now (rec .entry)) (pairs + 8 * (channel - 1))) n (now (out .exit)) ⌝ }
 {
@@ -99,7 +100,7 @@ fn put_pair(out: &mut [u8], at: usize, rec: &[u8], pairs: usize, channel: u8) ->
 }
 
 fn put_name(out: &mut [u8], at: usize, rec: &[u8]) -> usize
-    requires { ⌜ (atName + nameRoom ≤ length (now rec)) × (at + 15 ≤ length (now out)) ⌝ }
+    requires { ⌜ (atName + nameRoom ≤ length (now rec)) × (at + dataMost ≤ length (now out)) ⌝ }
     requires { ⌜ getD (now rec) atNameLength 0 ≤ nameRoom ⌝ }
     ensures { λ n. ⌜ PutsData (now (out .entry)) at (take (getD (now (rec .entry)) atNameLength 0) (bytesAt nameRoom (now (rec .entry)) atName)) n (now (out .exit)) ⌝ }
 {
@@ -110,7 +111,7 @@ fn put_name(out: &mut [u8], at: usize, rec: &[u8]) -> usize
 
 // The model, which stands at a place of the record. A 00 follows if it is shorter than its room.
 fn put_model(out: &mut [u8], at: usize, rec: &[u8], from: usize) -> usize
-    requires { ⌜ (from + modelRoom ≤ length (now rec)) × (at + 15 ≤ length (now out)) ⌝ }
+    requires { ⌜ (from + modelRoom ≤ length (now rec)) × (at + dataMost ≤ length (now out)) ⌝ }
     ensures { λ n. ⌜ PutsData (now (out .entry)) at (modelData (beforeZero (bytesAt modelRoom (now (rec .entry)) from))) n (now (out .exit)) ⌝ }
 {
     let most = from + MODEL_ROOM;
@@ -128,7 +129,7 @@ pub fn put_data(rec: &[u8], c: Command, p: &[u8], out: &mut [u8], at: usize) -> 
     requires { ⌜ Sound (now rec) ⌝ }
     requires { ⌜ countedOf c (length (now p)) ≡ Right ⌝ }
     requires { ⌜ rangeOf c (now p) ≡ Fits ⌝ }
-    requires { ⌜ at + 15 ≤ length (now out) ⌝ }
+    requires { ⌜ at + dataMost ≤ length (now out) ⌝ }
     ensures { λ n. ⌜ PutsData (now (out .entry)) at (dataOf c (recordOf (now (rec .entry))) (now (p .entry))) n (now (out .exit)) ⌝ }
 {
     match c {

@@ -15,7 +15,8 @@ use Rattle.wire.specs.Zeros.{allZero, zerosBehind, beforeZero}
 use Rattle.wire.specs.Frames.{waits}
 use Rattle.wire.specs.Serial.{serial}
 use Rattle.wire.proofs.NumberLaws.{length-part, part-all, part-is, drop-take}
-use Rattle.wire.proofs.ScanLaws.{part, behind-is}
+use Rattle.wire.proofs.ScanLaws.{part}
+use Rattle.wire.proofs.ZeroLaws.{behind-is}
 use Rattle.record.specs.Layout.{recordSize, nameRoom, modelRoom, pendingRoom, atNameLength, atName, atModel, atPendingLength, atPending, atPairs}
 use Rattle.record.specs.Limits.{nameRange}
 use Rattle.record.specs.Form.{Field, partFits, allFine, wellFormed, formBy, formOf}

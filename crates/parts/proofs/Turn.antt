@@ -12,7 +12,7 @@ use Rattle.wire.proofs.PutLaws.{put-put, put-sets}
 use Rattle.record.specs.Record.{withName, withSettings, withModel, withPending}
 use Rattle.record.specs.Layout.{NamePart, ModelPart, nameRoom, modelRoom, atNameLength}
 use Rattle.record.specs.InPlace.{TurnsAt, TurnsPending}
-use Rattle.record.proofs.Parts.{padded, cut-take}
+use Rattle.wire.proofs.ZeroLaws.{padded, cut-take}
 use Rattle.record.proofs.Stores.{set-nameIn, set-modelIn, set-pendingIn}
 use Rattle.record.proofs.InPlaceLaws.{turns-at}
 

@@ -1,19 +1,14 @@
--- Parts of the bytes of a record: numbers, lists with zeros behind them, pairs, and runs of stores.
+-- Parts of the bytes of a record: numbers, pairs, and runs of stores.
 use Prim.Native.Nat.{ℕ, zero, suc, _+_, _-_, _*_, _≤_, _<_}
-use mathlib.Core.Path.{_≡_, refl, sym, ap, ap₂, _∙_}
-use mathlib.Core.Bool.{true, and-eq-true-iff}
+use mathlib.Core.Path.{_≡_, refl, sym, ap, _∙_}
 use mathlib.Core.List.{List, [], _∷_, _++_}
 use native.Mathlib.Nat.{add-zero, zero-add, add-suc, suc-add, not-suc-le-zero, le-of-suc-le-suc}
 use native.Mathlib.Numerals.{towards-suc}
 use native.Mathlib.Omega.{arith}
-use lib.ListN.{length, getD, take, drop, set, replicate, length-append, length-replicate, length-set, take-append-drop, drop-of-length-le}
-use lib.Seq.{sets, set-append-left, take-append-seam, drop-append-seam, drop-cons, getD-drop}
-use lib.Dec.{eqb}
-use borrow.Author.Tests.{eqb-true}
+use lib.ListN.{length, getD, take, drop, set, length-set, drop-of-length-le}
+use lib.Seq.{sets, set-append-left, drop-cons, getD-drop}
 use Rattle.wire.specs.Numbers.{Bytes, halfAt, wordAt, bytes2, bytes4, bytesAt}
-use Rattle.wire.specs.Zeros.{allZero, zerosBehind, beforeZero}
-use Rattle.wire.proofs.NumberLaws.{half-bytes, word-back, word-bytes, bytes-take}
-use Rattle.wire.proofs.ScanLaws.{behind-is}
+use Rattle.wire.proofs.NumberLaws.{half-bytes, word-back, word-bytes}
 use Rattle.peak.specs.Pairs.{Pair, noPair, pairAt, pairsAt, pairBytes, pairsBytes}
 
 -- ---- numbers in a list of bytes
@@ -42,82 +37,6 @@ part-get n s at l e k h = sym (part-at n s at k h) ∙ ap (λ (x : List ℕ). ge
 pub part-drop : (n m : ℕ) (s : List ℕ) (j : ℕ) → bytesAt n s (m + j) ≡ bytesAt n (drop m s) j
 part-drop zero m s j = refl
 part-drop (suc n) m s j = rw (getD-drop m s j 0, ← add-suc m j) (ap (λ (t : List ℕ). getD s (m + j) 0 ∷ t) (part-drop n m s (suc j)))
-
--- ---- zeros behind a list
-
-pub shift : (n x : ℕ) (l : List ℕ) (j : ℕ) → bytesAt n (x ∷ l) (suc j) ≡ bytesAt n l j
-shift zero x l j = refl
-shift (suc n) x l j = ap (λ (t : List ℕ). getD l j 0 ∷ t) (shift n x l (suc j))
-
-none-is : (z : List ℕ) (j : ℕ) → allZero z ≡ true → bytesAt (length z) [] j ≡ z
-unfolding allZero
-none-is [] j e = refl
-none-is (b ∷ z) j e =
-    let w = and-eq-true-iff (eqb b 0) (allZero z) .0 e in
-    ap₂ (_∷_) (sym (eqb-true b 0 (w .0))) (none-is z (suc j) (w .1))
-
--- the bytes of a part are those in use and zeros
-padded-by : (p z : List ℕ) → allZero z ≡ true → bytesAt (length (p ++ z)) p 0 ≡ p ++ z
-padded-by [] z e = none-is z 0 e
-padded-by (x ∷ p) z e = ap (λ (t : List ℕ). x ∷ t) (shift (length (p ++ z)) x p 0 ∙ padded-by p z e)
-
-zeros : (n : ℕ) → allZero (replicate n 0) ≡ true
-unfolding allZero
-zeros zero = refl
-zeros (suc n) = zeros n
-
-pub padded : (m : ℕ) (l : List ℕ) → length l ≤ m → bytesAt m l 0 ≡ l ++ replicate (m - length l) 0
-padded m l h =
-    let e : length (l ++ replicate (m - length l) 0) ≡ m = simp (length-append, length-replicate) (omega arith) in
-    rw e at (padded-by l (replicate (m - length l) 0) (zeros (m - length l)))
-
-pub part-back : (m : ℕ) (l : List ℕ) → length l ≤ m → take (length l) (bytesAt m l 0) ≡ l
-part-back m l h = rw (padded m l h) (take-append-seam l (replicate (m - length l) 0))
-
-pub rest-zero : (m : ℕ) (l : List ℕ) → length l ≤ m → allZero (drop (length l) (bytesAt m l 0)) ≡ true
-rest-zero m l h = rw (padded m l h, drop-append-seam l (replicate (m - length l) 0)) (zeros (m - length l))
-
-pub pad-take : (n : ℕ) (l : List ℕ) → allZero (drop n l) ≡ true → bytesAt (length l) (take n l) 0 ≡ l
-pad-take n l e = rw (take-append-drop n l) at (padded-by (take n l) (drop n l) e)
-
--- ---- up to the first zero
-
-pub cut-take : (l : List ℕ) → take (length (beforeZero l)) l ≡ beforeZero l
-unfolding beforeZero
-cut-take [] = refl
-cut-take (zero ∷ l) = refl
-cut-take (suc b ∷ l) = ap (λ (t : List ℕ). suc b ∷ t) (cut-take l)
-
-pub cut-bytes : (l : List ℕ) → Bytes l → Bytes (beforeZero l)
-cut-bytes l b = rw (← cut-take l) (bytes-take (length (beforeZero l)) l b)
-
-pub cut-cut : (l : List ℕ) → beforeZero (beforeZero l) ≡ beforeZero l
-unfolding beforeZero
-cut-cut [] = refl
-cut-cut (zero ∷ l) = refl
-cut-cut (suc b ∷ l) = ap (λ (t : List ℕ). suc b ∷ t) (cut-cut l)
-
-pub cut-le : (l : List ℕ) → length (beforeZero l) ≤ length l
-unfolding beforeZero
-cut-le [] = omega arith
-cut-le (zero ∷ l) = omega arith
-cut-le (suc b ∷ l) = omega (arith, cut-le l)
-
-cut-zeros : (n : ℕ) (l : List ℕ) → beforeZero (l ++ replicate n 0) ≡ beforeZero l
-unfolding beforeZero
-cut-zeros zero [] = refl
-cut-zeros (suc n) [] = refl
-cut-zeros n (zero ∷ l) = refl
-cut-zeros n (suc b ∷ l) = ap (λ (t : List ℕ). suc b ∷ t) (cut-zeros n l)
-
-pub cut-back : (m : ℕ) (l : List ℕ) → length l ≤ m → beforeZero l ≡ l → beforeZero (bytesAt m l 0) ≡ l
-cut-back m l h e = rw (padded m l h) (cut-zeros (m - length l) l ∙ e)
-
-pub cut-behind : (m : ℕ) (l : List ℕ) → length l ≤ m → beforeZero l ≡ l → zerosBehind (bytesAt m l 0) ≡ true
-cut-behind m l h e = rw (behind-is (bytesAt m l 0), cut-back m l h e) (rest-zero m l h)
-
-pub pad-cut : (l : List ℕ) → zerosBehind l ≡ true → bytesAt (length l) (beforeZero l) 0 ≡ l
-pad-cut l e = rw (cut-take l) at (pad-take (length (beforeZero l)) l (sym (behind-is l) ∙ e))
 
 -- ---- runs of stores behind and within a part
 

@@ -22,7 +22,8 @@ use Rattle.record.specs.Limits.{powerRange, stepRange, modeRange, onOffR
 use Rattle.record.specs.Layout.{Part, SizeBytes, VersionByte, FlagByte, TriesByte, CodeWord, PowerHalf, StepByte, ModeByte, OnOffByte, InputBytes, OutputByte, IntervalByte, FilterWord, NamePart, ModelPart, PendingPart, PairsPart, CounterHalf, has, each, Plan, width, place, planSize, flagsByte, outputsByte, bitOf, partBytes, valueOf}
 use Rattle.record.specs.Form.{Field, field, several, allFine, flagsFit, testsOf, readingBy, Unless, Silent, InRangeIn}
 use Rattle.record.proofs.Choices.{nibble-below, nibble-back, bits-back, even-is}
-use Rattle.record.proofs.Parts.{Words, shift, part-drop, word-lt, words-lt, half-at, word-at, part-back, rest-zero, pad-take, cut-cut, cut-bytes, cut-le, cut-back, cut-behind, pad-cut, pair-part, pair-back, pairs-part, pairs-shift}
+use Rattle.wire.proofs.ZeroLaws.{shift, part-back, rest-zero, pad-take, cut-cut, cut-bytes, cut-le, cut-back, cut-behind, pad-cut}
+use Rattle.record.proofs.Parts.{Words, part-drop, word-lt, words-lt, half-at, word-at, pair-part, pair-back, pairs-part, pairs-shift}
 use Rattle.record.specs.Laid.{Laid, coreParts, radioParts}
 use Rattle.record.proofs.Layouts.{part-part}
 

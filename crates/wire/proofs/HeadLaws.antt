@@ -4,6 +4,7 @@ use mathlib.Core.Path.{_≡_, refl}
 use mathlib.Core.Bool.{Bool, true, false}
 use native.Mathlib.Omega.{arith}
 use borrow.Author.Tests.{le-leb, lt-leb}
+use Rattle.wire.specs.Sizes.{dataMost}
 use Rattle.wire.specs.Serial.{Head, NotHead, Fixed, isHead, serialHead, lineHead}
 use Rattle.wire.specs.Heads.{announcedBy, announcedOf}
 use Rattle.wire.specs.declared.Line.{Line}
@@ -32,7 +33,7 @@ pub none-head : (v : Head) → announcedBy v ≡ NoFrame → v ≡ NotHead
 none-head NotHead e = refl
 none-head (Fixed m) e = let z : _≡_ {A = ℕ} 0 1 = cc in absurd (omega arith)
 
-pub params-few : (k : Line) (b n : ℕ) → announcedOf k b ≡ Params n → n ≤ 15
+pub params-few : (k : Line) (b n : ℕ) → announcedOf k b ≡ Params n → n ≤ dataMost
 params-few k b n e = omega (arith, line-short k b n (params-head (lineHead k b) n e))
 
 -- ---- the board's heads by their test

@@ -9,3 +9,4 @@ pub mod ReplyLaws
 pub mod HuntRows
 pub mod HeadLaws
 pub mod ScanLaws
+pub mod ZeroLaws

@@ -7,7 +7,7 @@ use native.Mathlib.Omega.{arith}
 use lib.ListN.{length, set, length-append, length-set}
 use lib.Dec.{leb}
 use borrow.Author.Tests.{leb-true}
-use Rattle.wire.specs.Sizes.{frameMost}
+use Rattle.wire.specs.Sizes.{dataMost, frameMost}
 use Rattle.wire.specs.Numbers.{put}
 use Rattle.wire.specs.Serial.{isHead}
 use Rattle.wire.specs.Replies.{Reply, kindOf, replyBytes, around, repliesBytes}
@@ -18,7 +18,7 @@ unfolding replyBytes
 length-reply a = simp length-append (omega arith)
 
 -- a reply is 4 to `frameMost` bytes long
-pub reply-bounds : (a : Reply) → length (a .body) ≤ 15 → (4 ≤ length (replyBytes a)) × (length (replyBytes a) ≤ frameMost)
+pub reply-bounds : (a : Reply) → length (a .body) ≤ dataMost → (4 ≤ length (replyBytes a)) × (length (replyBytes a) ≤ frameMost)
 reply-bounds a h = rw (length-reply a) (omega arith, omega arith)
 
 pub length-none : length (repliesBytes []) ≡ 0

@@ -9,7 +9,7 @@ use lib.ListN.{length, getD, take, drop}
 use lib.Seq.{drop-cons}
 use borrow.Author.Tests.{eq-eqb, ne-eqb}
 use Rattle.wire.specs.Numbers.{wordAt}
-use Rattle.wire.specs.Zeros.{allZero, zerosBehind, beforeZero}
+use Rattle.wire.specs.Zeros.{allZero, beforeZero}
 
 abbrev pub part : List ℕ → ℕ → ℕ → List ℕ
 part s from to = take (to - from) (drop from s)
@@ -64,10 +64,3 @@ module _ (s : List ℕ) (at to : ℕ) (h : to ≤ at) where
   pub first-end : length (beforeZero (part s at to)) ≡ 0
   unfolding beforeZero
   first-end = rw (part-none s at to h) refl
-
--- what stands behind the first zero is what stands behind the bytes before it
-pub behind-is : (l : List ℕ) → zerosBehind l ≡ allZero (drop (length (beforeZero l)) l)
-unfolding zerosBehind allZero beforeZero
-behind-is [] = refl
-behind-is (zero ∷ l) = refl
-behind-is (suc b ∷ l) = behind-is l

@@ -1,6 +1,10 @@
 -- The sizes that a stream goes by.
 use Prim.Native.Nat.{ℕ, _+_}
 
+-- "n = 0 to 15": the parameters of a frame, the data of a reply
+abbrev pub dataMost : ℕ
+dataMost = 15
+
 -- "Its size is 4 + n, at most 19": that of a frame, and of a reply
 abbrev pub frameMost : ℕ
 frameMost = 19
