@@ -1,7 +1,7 @@
 -- Each way that the bytes call ends, as its outcome.
 use Prim.Native.Nat.{ℕ, _+_, _≤_, _<_}
-use mathlib.Core.Path.{_≡_, refl, _∙_}
-use mathlib.Core.List.{List, _++_}
+use mathlib.Core.Path.{_≡_, refl, ap, _∙_}
+use mathlib.Core.List.{List, [], _∷_, _++_}
 use native.Mathlib.Omega.{arith}
 use lib.ListN.{length, getD, length-append}
 use borrow.Author.Tests.{lt-ltb, le-ltb}
@@ -23,9 +23,10 @@ use Rattle.call.proofs.InOrder.{left}
 use Rattle.call.specs.Calls.{afterBytes, bytesCall}
 use Rattle.call.specs.declared.Answer.{Answer}
 use Rattle.hunt.specs.declared.Counts.{Counts}
-use Rattle.call.specs.declared.Ending.the-variants.{BadRecord, BadLength, NoRoom}
+use Rattle.call.specs.declared.Ending.the-variants.{BadRecord, BadLength, NoRoom, Done}
 use Rattle.call.proofs.Unfolded.{bytes-by}
-use Rattle.call.proofs.Ends.{good-sound}
+use Rattle.call.proofs.Ends.{good-well, good-sound}
+use Rattle.call.proofs.Empty.{empty-input}
 use Rattle.hunt.proofs.JoinLaws.{held-is}
 use Rattle.command.proofs.Room.{room-enough}
 
@@ -38,6 +39,10 @@ pub served-small : (s input o : List ℕ) (p : Counts) (t out : List ℕ) → So
 served-small s input o p t out sound b h f =
     let few = pending-short (recordOf s .pending) (sound .fit .pending) in
     (omega (arith, few, f .written-is, room-enough (recordOf s) input b (sound .fit)), omega (arith, few, f .skipped-is, skipped-most (recordOf s) input))
+
+none : (l : List ℕ) → length l ≡ 0 → l ≡ []
+none [] h = refl
+none (x ∷ l) h = absurd (omega arith)
 
 module _ (s input o : List ℕ) (a : Answer) where
   pub bytes-bad-record : formOf s ≡ Bad → a ≡ noCounts BadRecord → Leaves (bytesCall s input o) a s o
@@ -56,6 +61,11 @@ module _ (s input o : List ℕ) (a : Answer) where
           let k′ : length o < roomFor (length (recordOf s .pending) + length input) = rw room-is at k in
           left (bytesCall s input o) (refused NoRoom s o)
           (bytes-by s input o ∙ rw (g, le-ltb inputMost (length input) h, lt-ltb (length o) (roomFor (length (recordOf s .pending) + length input)) k′) refl) a s o e refl refl
+
+      pub bytes-empty : roomFor (getD s atPendingLength 0 + length input) ≤ length o → length input ≡ 0 → a ≡ noCounts Done → Leaves (bytesCall s input o) a s o
+      bytes-empty k z e =
+          let k′ : roomFor (length (recordOf s .pending) + 0) ≤ length o = rw (room-is, z) at k in
+          left (bytesCall s input o) (refused Done s o) (ap (λ (l : List ℕ). bytesCall s l o) (none input z) ∙ empty-input s o bytes (good-well s g) k′) a s o e refl refl
 
       pub bytes-done : roomFor (getD s atPendingLength 0 + length input) ≤ length o → (p : Counts) (t out : List ℕ) → Serves (recordOf s) input o p t out
           → a ≡ record { result = 0; written = p .written; skipped = p .skipped } → Leaves (bytesCall s input o) a t out

@@ -9,6 +9,7 @@ use hunt::room_for;
 use hunt::serve;
 use record::Form;
 use record::places::AT_PENDING_LENGTH;
+use table::entries::command_table;
 use wire::sizes::INPUT_MOST;
 
 // Carries out every whole frame of the pending bytes and the input; what waits becomes the new pending bytes.
@@ -26,7 +27,12 @@ pub extern "C" fn board_bytes(rec: &mut [u8], input: &[u8], out: &mut [u8]) -> A
     if out.len() < room_for(held, input.len()) {
         return ended(Ending::NoRoom);
     }
-    let p = serve(rec, input, out);
+    // What waited goes on waiting, and no table is needed.
+    if input.len() == 0 {
+        return ended(Ending::Done);
+    }
+    let table = command_table();
+    let p = serve(&table, rec, input, out);
     Answer {
         result: 0,
         written: p.written as u32,

@@ -7,6 +7,7 @@ ghost use Rattle.wire.specs.Sizes.{frameMost};
 ghost use Rattle.wire.specs.Serial.{isHead, headOf};
 ghost use Rattle.record.specs.Layout.{recordOf};
 ghost use Rattle.record.specs.InPlace.{Sound};
+ghost use Rattle.command.specs.Entries.{unpacked, rowsSay, entries};
 ghost use Rattle.carry.specs.Carry.{Acts, Carries};
 use buffer::reply::close_reply;
 use command::Verdict;
@@ -14,14 +15,17 @@ use data::put_data;
 use effect::refuse_on;
 use effect::take_effect;
 use judge::judge;
+use table::entries::TABLE_SIZE;
+use table::entry_of;
 use table::status_of;
 
-// Judges a command and does to the record what follows from that.
-pub fn act(rec: &mut [u8], head: u8, number: u8, p: &[u8]) -> Verdict
+// Judges a command by its entry of the table, and does to the record what follows from that.
+pub fn act(entry: u8, rec: &mut [u8], head: u8, number: u8, p: &[u8]) -> Verdict
     requires { ⌜ Sound (now rec) ⌝ }
+    requires { ⌜ unpacked entry ≡ rowsSay head number ⌝ }
     ensures { λ v. ⌜ Acts (recordOf (now (rec .entry))) head number (now (p .entry)) v (now (rec .exit)) ⌝ }
 {
-    let verdict = judge(rec, head, number, p);
+    let verdict = judge(entry, rec, head, number, p);
     match verdict {
         Verdict::Do(c) => {
             take_effect(rec, c, p);
@@ -34,7 +38,14 @@ pub fn act(rec: &mut [u8], head: u8, number: u8, p: &[u8]) -> Verdict
 }
 
 // Carries out a whole frame and writes the reply at a place; returns the place behind it.
-pub fn carry(rec: &mut [u8], frame: &[u8], out: &mut [u8], at: usize) -> usize
+pub fn carry(
+    table: &[u8; TABLE_SIZE],
+    rec: &mut [u8],
+    frame: &[u8],
+    out: &mut [u8],
+    at: usize,
+) -> usize
+    requires { ⌜ now table ≡ entries ⌝ }
     requires { ⌜ Sound (now rec) ⌝ }
     requires { ⌜ (4 ≤ length (now frame)) × (isHead (headOf (now frame)) ≡ true) ⌝ }
     requires { ⌜ at + frameMost ≤ length (now out) ⌝ }
@@ -42,7 +53,8 @@ pub fn carry(rec: &mut [u8], frame: &[u8], out: &mut [u8], at: usize) -> usize
 {
     let end = frame.len() - 1;
     let p = &frame[3..end];
-    let verdict = act(rec, frame[1], frame[2], p);
+    let entry = entry_of(table, frame[1], frame[2]);
+    let verdict = act(entry, rec, frame[1], frame[2], p);
     match verdict {
         Verdict::Do(c) => {
             let n = put_data(rec, c, p, out, at + 3);

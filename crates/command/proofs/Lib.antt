@@ -1,3 +1,4 @@
+pub mod EntryLaws
 pub mod Refused
 pub mod Blind
 pub mod Secrecy

@@ -1,4 +1,5 @@
 pub mod Tables
+pub mod Entries
 pub mod Effects
 pub mod Judge
 pub mod Step

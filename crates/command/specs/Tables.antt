@@ -1,5 +1,6 @@
 -- The two command tables: numbers, parameters, access and ranges, row by row.
 use Prim.Native.Nat.{ℕ, _/_}
+use mathlib.Core.Path.{_≡_}
 use mathlib.Core.Bool.{Bool, true, false, cond, _&&_}
 use mathlib.Core.List.{List, [], _∷_}
 use lib.ListN.{getD}
@@ -84,6 +85,10 @@ lookUp n (r ∷ rows) = cond (eqb n (r .number)) (r .listed) (lookUp n rows)
 unfoldable pub listedOf : ℕ → ℕ → Listed
 listedOf head number = cond (eqb (head / 16) 0xA) (lookUp number bt121) (lookUp number amplifier)
 
+-- a number that is built
+abbrev pub Stands : Listed → Type 0
+Stands x = (c : Command) × (x ≡ Built c)
+
 -- ---- how many parameters
 
 pub record Span : Type 0 where
@@ -144,9 +149,12 @@ countedBy true = Right
 countedBy false = Wrong
 
 -- 5B: "wrong number of parameters"
+abbrev pub countedIn : Span → ℕ → Counted
+countedIn s n = countedBy (leb (s .least) n && leb n (s .most))
+
 unfoldable pub countedOf : Command → ℕ → Counted
 unfolding spanOf
-countedOf c n = countedBy (leb (spanOf c .least) n && leb n (spanOf c .most))
+countedOf c n = countedIn (spanOf c) n
 
 -- ---- what a command needs of the board
 

@@ -37,12 +37,6 @@ pub enum Listed {
     Unlisted,
 }
 
-// The least and the greatest number of parameters that a command takes.
-pub struct Count {
-    pub least: usize,
-    pub most: usize,
-}
-
 // Whether the number of parameters is one that the command takes.
 pub enum Counted {
     Right,

@@ -6,6 +6,7 @@ ghost use Rattle.wire.specs.Sizes.{frameMost, waitMost, inputMost, streamMost, 
 ghost use Rattle.wire.specs.Serial.{headsOf};
 ghost use Rattle.record.specs.Layout.{pendingRoom, recordOf};
 ghost use Rattle.record.specs.InPlace.{Sound};
+ghost use Rattle.command.specs.Entries.{entries};
 ghost use Rattle.command.specs.Hunt.{roomFor};
 ghost use Rattle.hunt.specs.Progress.{Hunts, Rests, Joins, Serves};
 use buffer::write::put_in;
@@ -16,6 +17,7 @@ use parts::set_pending;
 use record::places::AT_PENDING;
 use record::places::AT_PENDING_LENGTH;
 use record::places::PENDING_ROOM;
+use table::entries::TABLE_SIZE;
 use wire::Line;
 use wire::sizes::FRAME_MOST;
 use wire::sizes::JOIN_MOST;
@@ -44,12 +46,14 @@ pub fn room_for(held: usize, len: usize) -> usize
 // Hunts through s, for the heads of a line, up to the first piece that begins at `until` or later; writes the replies from a place on.
 fn hunt_in(
     line: Line,
+    table: &[u8; TABLE_SIZE],
     rec: &mut [u8],
     s: &[u8],
     until: usize,
     out: &mut [u8],
     start: usize,
 ) -> Progress
+    requires { ⌜ now table ≡ entries ⌝ }
     requires { ⌜ Sound (now rec) ⌝ }
     requires { ⌜ (until ≤ length (now s)) × (length (now s) ≤ streamMost) ⌝ }
     requires { ⌜ start + roomFor (length (now s)) ≤ length (now out) ⌝ }
@@ -66,7 +70,7 @@ fn hunt_in(
         at = to;
         match seen {
             Seen::Frame(n) => {
-                wrote = carry(rec, &s[at..at + 4 + n], out, wrote);
+                wrote = carry(table, rec, &s[at..at + 4 + n], out, wrote);
                 at = at + 4 + n;
                 continue 'hunt;
             }
@@ -104,21 +108,30 @@ fn join(rec: &[u8], at: usize, held: usize, input: &[u8], head: &mut [u8]) -> us
 }
 
 // Hunts through all of a stream; what waits at its end becomes the pending bytes.
-fn hunt_rest(line: Line, rec: &mut [u8], s: &[u8], out: &mut [u8], start: usize) -> Progress
+fn hunt_rest(
+    line: Line,
+    table: &[u8; TABLE_SIZE],
+    rec: &mut [u8],
+    s: &[u8],
+    out: &mut [u8],
+    start: usize,
+) -> Progress
+    requires { ⌜ now table ≡ entries ⌝ }
     requires { ⌜ Sound (now rec) ⌝ }
     requires { ⌜ length (now s) ≤ streamMost ⌝ }
     requires { ⌜ start + roomFor (length (now s)) ≤ length (now out) ⌝ }
     ensures { λ p. ⌜ Rests (headsOf line) (recordOf (now (rec .entry))) (now (s .entry)) (now (out .entry)) start p (now (rec .exit)) (now (out .exit)) ⌝ }
 {
     let len = s.len();
-    let p = hunt_in(line, rec, s, len, out, start);
+    let p = hunt_in(line, table, rec, s, len, out, start);
     let at = p.at;
     set_pending(rec, AT_PENDING_LENGTH, PENDING_ROOM, &s[at..len]);
     p
 }
 
 // The whole of a bytes call that passed its checks: first candidates that start in the pending bytes, then the input itself.
-pub fn serve(rec: &mut [u8], input: &[u8], out: &mut [u8]) -> Counts
+pub fn serve(table: &[u8; TABLE_SIZE], rec: &mut [u8], input: &[u8], out: &mut [u8]) -> Counts
+    requires { ⌜ now table ≡ entries ⌝ }
     requires { ⌜ Sound (now rec) ⌝ }
     requires { ⌜ length (now input) ≤ inputMost ⌝ }
     requires { ⌜ roomFor (length (recordOf (now rec) .pending) + length (now input)) ≤ length (now out) ⌝ }
@@ -127,7 +140,7 @@ pub fn serve(rec: &mut [u8], input: &[u8], out: &mut [u8]) -> Counts
     let held = rec[AT_PENDING_LENGTH] as usize;
     let mut head = [0u8; JOIN_MOST];
     let total = join(rec, AT_PENDING, held, input, &mut head);
-    let first = hunt_in(Line::Board, rec, &head[..total], held, out, 0);
+    let first = hunt_in(Line::Board, table, rec, &head[..total], held, out, 0);
     let at = first.at;
     if at < held {
         set_pending(rec, AT_PENDING_LENGTH, PENDING_ROOM, &head[at..total]);
@@ -137,7 +150,7 @@ pub fn serve(rec: &mut [u8], input: &[u8], out: &mut [u8]) -> Counts
         };
     }
     let from = at - held;
-    let rest = hunt_rest(Line::Board, rec, &input[from..], out, first.wrote);
+    let rest = hunt_rest(Line::Board, table, rec, &input[from..], out, first.wrote);
     Counts {
         written: rest.wrote,
         skipped: first.skipped + rest.skipped,

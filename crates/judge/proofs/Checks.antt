@@ -1,11 +1,11 @@
 -- What each check of the code finds is what the judge's definitions say.
 use Prim.Native.Nat.{ℕ, _/_, _%_, _≤_, _<_, zero-le}
 use mathlib.Core.Path.{_≡_, refl, sym, ap, ap₂, _∙_}
-use mathlib.Core.Bool.{Bool, true, false, cond}
+use mathlib.Core.Bool.{Bool, true, false, true≢false, cond}
 use mathlib.Core.List.{List}
-use native.Mathlib.Nat.{le-refl, le-trans}
+use native.Mathlib.Nat.{le-refl, le-trans, div-div-eq-div-mul}
 use native.Mathlib.Omega.{arith}
-use borrow.Author.Tests.{le-leb, lt-leb, eq-eqb, ne-eqb}
+use borrow.Author.Tests.{le-leb, lt-leb, eq-eqb, ne-eqb, eqb-false, not-true}
 use lib.ListN.{length, getD}
 use lib.Dec.{eqb}
 use Rattle.wire.specs.Numbers.{wordAt}
@@ -24,12 +24,14 @@ use Rattle.command.specs.declared.Command.the-variants.{Open, Close, ReadPower,
 use Rattle.command.specs.declared.Listed.{Listed}
 use Rattle.command.specs.declared.Listed.the-variants.{Built, NotBuilt, Unlisted}
 use Rattle.command.specs.declared.Counted.the-variants.{Right, Wrong}
-use Rattle.command.specs.declared.Need.the-variants.{Code}
+use Rattle.command.specs.declared.Need.the-variants.{Nothing, Opened, Closed, Unlocked, Code}
 use Rattle.command.specs.declared.Access.{Access}
 use Rattle.command.specs.declared.Access.the-variants.{Given, Missing, WrongCode}
 use Rattle.command.specs.declared.Verdict.the-variants.{Do, Refuse}
 use Rattle.command.specs.declared.Refusal.the-variants.{Unknown, Unbuilt, Miscounted, NoAccess, BadCode, TooBig, TooSmall}
-use Rattle.command.specs.Tables.{listedOf, spanOf, countedOf, needOf, rangeOf}
+use Rattle.command.specs.Tables.{Span, listedOf, spanOf, countedIn, countedOf, needOf, rangeOf}
+use Rattle.command.specs.Entries.{saidBy, rowsSay, spanIn, needIn, isBuilt, unpacked}
+use Rattle.command.proofs.EntryLaws.{asked-is}
 use Rattle.command.specs.Judge.{accessOf, verdictOf}
 use Rattle.judge.specs.Checks.{asks}
 use Rattle.command.proofs.Refused.{verdict-is}
@@ -126,6 +128,76 @@ module _ (s p : List ℕ) (o : Bool) (shows : ShowsAt FlagByte atFlags s o (λ r
       code-wrong q r i e =
           let w : wordAt s atCode ≡ r .code = ap (λ (l : List ℕ). wordAt l atCode) e ∙ get-code r (i .code) in
           rw (compared r e (shown r i e), ne-eqb (wordAt p 0) (r .code) (λ z. q (z ∙ sym w))) refl
+
+-- ---- what an entry's bits ask
+
+-- a command that is taken while configuration mode is open (o), while it is closed (c), or in either, with the mode m
+taken-in : (o c m : Bool) → (c ≡ false → o ≡ true) → (r : Record) (p : List ℕ) → r .flags .opened ≡ m → cond m (cond o Given Missing) (cond c Given Missing) ≡ accessOf (cond c (cond o Nothing Closed) Opened) r p
+unfolding accessOf
+taken-in true true true b r p q = refl
+taken-in true true false b r p q = refl
+taken-in true false true b r p q = rw q refl
+taken-in true false false b r p q = rw q refl
+taken-in false true true b r p q = rw q refl
+taken-in false true false b r p q = rw q refl
+taken-in false false m b r p q = absurd (true≢false (sym (b refl)))
+
+-- of two bits that are not both zero, the lower one stands if the upper one does not
+low-bit : (a : ℕ) → (a % 4 ≡ 0 → ⊥) → (a / 2 % 2 ≡ 1 → ⊥) → a % 2 ≡ 1
+low-bit a h k = let d : a / 2 / 2 ≡ a / 4 = div-div-eq-div-mul a 2 2 in omega (arith, d, h, k)
+
+module _ (s p : List ℕ) (e : ℕ) where
+  -- bit 6
+  pub asks-code : e / 64 % 2 ≡ 1 → needIn e ≡ Code
+  asks-code h = rw (eq-eqb (e / 64 % 2) 1 h) refl
+
+  module _ (uncoded : e / 64 % 2 ≡ 1 → ⊥) where
+    -- bit 5
+    pub asks-unlocked : e / 32 % 2 ≡ 1 → needIn e ≡ Unlocked
+    asks-unlocked h = rw (ne-eqb (e / 64 % 2) 1 uncoded, eq-eqb (e / 32 % 2) 1 h) refl
+
+    -- bits 3 and 4
+    module _ (unlocking : e / 32 % 2 ≡ 1 → ⊥) (built : isBuilt e ≡ true) (m : Bool) (shows : ShowsAt FlagByte atFlags s m (λ r. r .flags .opened)) where
+      one-bit : bitOf e 0x10 ≡ false → bitOf e 0x08 ≡ true
+      one-bit t =
+          let a = eqb-false (e / 16 % 2) 1 t in
+          let b = eqb-false (e / 8 % 4) 0 (not-true (eqb (e / 8 % 4) 0) built) in
+          eq-eqb (e / 8 % 2) 1 (low-bit (e / 8) b (rw (div-div-eq-div-mul e 8 2) a))
+
+      abbrev found : Access
+      found = cond m (cond (bitOf e 0x08) Given Missing) (cond (bitOf e 0x10) Given Missing)
+
+      by-mode : Shows s found (λ r. accessOf (needIn e) r p)
+      by-mode r i q =
+          rw (ne-eqb (e / 64 % 2) 1 uncoded, ne-eqb (e / 32 % 2) 1 unlocking)
+          (taken-in (bitOf e 0x08) (bitOf e 0x10) m one-bit r p (sym (flag-here s m (λ b. b .flags .opened) shows r i q)))
+
+      pub open-given : m ≡ true → e / 8 % 2 ≡ 1 → Shows s Given (λ r. accessOf (needIn e) r p)
+      open-given t h r i q = let w : Given ≡ found = rw (t, eq-eqb (e / 8 % 2) 1 h) refl in w ∙ by-mode r i q
+
+      pub open-missing : m ≡ true → (e / 8 % 2 ≡ 1 → ⊥) → Shows s Missing (λ r. accessOf (needIn e) r p)
+      open-missing t h r i q = let w : Missing ≡ found = rw (t, ne-eqb (e / 8 % 2) 1 h) refl in w ∙ by-mode r i q
+
+      pub closed-given : m ≡ false → e / 16 % 2 ≡ 1 → Shows s Given (λ r. accessOf (needIn e) r p)
+      closed-given t h r i q = let w : Given ≡ found = rw (t, eq-eqb (e / 16 % 2) 1 h) refl in w ∙ by-mode r i q
+
+      pub closed-missing : m ≡ false → (e / 16 % 2 ≡ 1 → ⊥) → Shows s Missing (λ r. accessOf (needIn e) r p)
+      closed-missing t h r i q = let w : Missing ≡ found = rw (t, ne-eqb (e / 16 % 2) 1 h) refl in w ∙ by-mode r i q
+
+-- the entry of a built command asks what its row asks
+module _ (e head number : ℕ) (says : unpacked e ≡ rowsSay head number) (c : Command) (l : listedOf head number ≡ Built c) where
+  asks-as : (isBuilt e ≡ true) × (needIn e ≡ needOf c) × (spanIn e ≡ spanOf c)
+  asks-as = asked-is e (needOf c) (spanOf c) (says ∙ ap saidBy l)
+
+  pub built-as : isBuilt e ≡ true
+  built-as = asks-as .0
+
+  pub need-as : needIn e ≡ needOf c
+  need-as = asks-as .1
+
+  pub counted-as : (n : ℕ) → countedIn (spanIn e) n ≡ countedOf c n
+  unfolding countedOf
+  counted-as n = ap (λ (s : Span). countedIn s n) (asks-as .2)
 
 -- ---- the verdict
 

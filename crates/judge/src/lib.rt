@@ -1,16 +1,19 @@
 // The checks of a frame, in the order of the refusals: each answers an enum, and the first that does not pass decides.
+ghost use mathlib.Core.Path.{_≡_};
+ghost use mathlib.Core.Bool.{true};
+ghost use mathlib.Core.List.{[]};
 ghost use Prim.Native.Nat.{_≤_};
 ghost use lib.ListN.{length};
 ghost use Rattle.record.specs.Layout.{FlagByte, atFlags};
 ghost use Rattle.record.specs.InPlace.{Sound, Shows, SoundAt, ShowsAt};
-ghost use Rattle.command.specs.declared.Need.the-variants.{Code};
+ghost use Rattle.command.specs.declared.Need.the-variants.{Unlocked, Code};
+ghost use Rattle.command.specs.Entries.{needIn, isBuilt, unpacked, rowsSay};
 ghost use Rattle.command.specs.Judge.{accessOf, verdictOf};
 ghost use Rattle.judge.specs.Checks.{asks};
 use buffer::numbers::word_at;
 use command::Access;
 use command::Counted;
 use command::Listed;
-use command::Need;
 use command::Refusal;
 use command::Verdict;
 use range::check_range;
@@ -19,7 +22,6 @@ use record::places::AT_FLAGS;
 use record::places::AT_TRIES;
 use table::check_count;
 use table::check_number;
-use table::need_of;
 use wire::Range;
 
 fn is_open(rec: &[u8]) -> bool
@@ -54,53 +56,60 @@ fn code_access(rec: &[u8], p: &[u8]) -> Access
     Access::WrongCode
 }
 
-// 62: what the command needs of the board.
-fn check_access(need: Need, rec: &[u8], p: &[u8]) -> Access
+// An unlocked board, with configuration mode closed.
+fn lock_access(rec: &[u8]) -> Access
     requires { ⌜ Sound (now rec) ⌝ }
-    requires { ⌜ asks need ≤ length (now p) ⌝ }
-    ensures { λ r. ⌜ Shows (now (rec .entry)) r (λ b. accessOf need b (now (p .entry))) ⌝ }
+    ensures { λ r. ⌜ Shows (now (rec .entry)) r (λ b. accessOf Unlocked b []) ⌝ }
 {
-    match need {
-        Need::Nothing => Access::Given,
-        Need::Opened => if is_open(rec) {
-            Access::Given
-        } else {
-            Access::Missing
-        },
-        Need::Closed => if is_open(rec) {
-            Access::Missing
-        } else {
-            Access::Given
-        },
-        Need::Unlocked => {
-            if is_open(rec) {
-                return Access::Missing;
-            }
-            if is_unlocked(rec) {
-                Access::Given
-            } else {
-                Access::Missing
-            }
-        }
-        Need::Code => code_access(rec, p),
+    if is_open(rec) {
+        return Access::Missing;
     }
+    if is_unlocked(rec) {
+        return Access::Given;
+    }
+    Access::Missing
 }
 
-pub fn judge(rec: &[u8], head: u8, number: u8, p: &[u8]) -> Verdict
+// 62: what the entry of a built command asks of the board.
+fn check_access(entry: u8, rec: &[u8], p: &[u8]) -> Access
     requires { ⌜ Sound (now rec) ⌝ }
+    requires { ⌜ (isBuilt entry ≡ true) × (asks (needIn entry) ≤ length (now p)) ⌝ }
+    ensures { λ r. ⌜ Shows (now (rec .entry)) r (λ b. accessOf (needIn entry) b (now (p .entry))) ⌝ }
+{
+    if entry / 64 % 2 == 1 {
+        return code_access(rec, p);
+    }
+    if entry / 32 % 2 == 1 {
+        return lock_access(rec);
+    }
+    if is_open(rec) {
+        if entry / 8 % 2 == 1 {
+            return Access::Given;
+        }
+        return Access::Missing;
+    }
+    if entry / 16 % 2 == 1 {
+        return Access::Given;
+    }
+    Access::Missing
+}
+
+pub fn judge(entry: u8, rec: &[u8], head: u8, number: u8, p: &[u8]) -> Verdict
+    requires { ⌜ Sound (now rec) ⌝ }
+    requires { ⌜ unpacked entry ≡ rowsSay head number ⌝ }
     ensures { λ r. ⌜ Shows (now (rec .entry)) r (λ b. verdictOf b head number (now (p .entry))) ⌝ }
 {
-    let listed = check_number(head, number);
+    let listed = check_number(entry, head, number);
     let Listed::Built(c) = listed else {
         return match listed {
             Listed::NotBuilt => Verdict::Refuse(Refusal::Unbuilt),
             _ => Verdict::Refuse(Refusal::Unknown),
         };
     };
-    let Counted::Right = check_count(c, p.len()) else {
+    let Counted::Right = check_count(entry, p.len()) else {
         return Verdict::Refuse(Refusal::Miscounted);
     };
-    let access = check_access(need_of(c), rec, p);
+    let access = check_access(entry, rec, p);
     let Access::Given = access else {
         return match access {
             Access::WrongCode => Verdict::Refuse(Refusal::BadCode),

@@ -14,7 +14,7 @@ enum-known-verdict c = search needs
 take-effect-requires : tie.Need-take-effect-requires
 take-effect-requires c κs =
     let z = c .before .before .before .before .before .before .before .before in
-    (z .pre, may-do (z .args .rec .now) (z .args .head) (z .args .number) (z .args .p .now) (z .pre) _ (c .before .before .before .before .judge .ensures) _ (c .before .before .verdict .given .1))
+    (z .pre .0, may-do (z .args .rec .now) (z .args .head) (z .args .number) (z .args .p .now) (z .pre .0) _ (c .before .before .before .before .judge .ensures) _ (c .before .before .verdict .given .1))
 
 enum-known-verdict-2 : tie.Need-enum-known-verdict-2
 enum-known-verdict-2 c = search needs
@@ -22,7 +22,7 @@ enum-known-verdict-2 c = search needs
 refuse-on-requires : tie.Need-refuse-on-requires
 refuse-on-requires c κs =
     let z = c .before .before .before .before .before .before .before .before in
-    (z .pre, may-count (z .args .rec .now) (z .args .head) (z .args .number) (z .args .p .now) (z .pre) _ (c .before .before .before .before .judge .ensures) _ (c .before .before .verdict2 .given .1))
+    (z .pre .0, may-count (z .args .rec .now) (z .args .head) (z .args .number) (z .args .p .now) (z .pre .0) _ (c .before .before .before .before .judge .ensures) _ (c .before .before .verdict2 .given .1))
 
 same-length : tie.Need-same-length
 same-length c = search needs
@@ -30,7 +30,7 @@ same-length c = search needs
 returns : tie.Need-returns
 returns c =
     let z = c .before .before .before .before .before .before .before .before .before .before .before in
-    acts-do (z .args .rec .now) (z .args .head) (z .args .number) (z .args .p .now) (z .pre) _ (c .before .before .before .before .before .before .before .judge .ensures) _ (c .before .before .before .before .before .verdict .given .1) (λ i. omega (arith, c .before .before .before .before .before .before .before .before .before .shared-slice-known .given i)) _ (c .before .before .take-effect .ensures)
+    acts-do (z .args .rec .now) (z .args .head) (z .args .number) (z .args .p .now) (z .pre .0) _ (c .before .before .before .before .before .before .before .judge .ensures) _ (c .before .before .before .before .before .verdict .given .1) (λ i. omega (arith, c .before .before .before .before .before .before .before .before .before .shared-slice-known .given i)) _ (c .before .before .take-effect .ensures)
 
 same-length-2 : tie.Need-same-length-2
 same-length-2 c = search needs
@@ -38,7 +38,7 @@ same-length-2 c = search needs
 returns-2 : tie.Need-returns-2
 returns-2 c =
     let z = c .before .before .before .before .before .before .before .before .before .before .before in
-    acts-refuse (z .args .rec .now) (z .args .head) (z .args .number) (z .args .p .now) (z .pre) _ (c .before .before .before .before .before .before .before .judge .ensures) _ (c .before .before .before .before .before .verdict2 .given .1) (λ i. omega (arith, c .before .before .before .before .before .before .before .before .before .shared-slice-known .given i)) _ (c .before .before .refuse-on .ensures)
+    acts-refuse (z .args .rec .now) (z .args .head) (z .args .number) (z .args .p .now) (z .pre .0) _ (c .before .before .before .before .before .before .before .judge .ensures) _ (c .before .before .before .before .before .verdict2 .given .1) (λ i. omega (arith, c .before .before .before .before .before .before .before .before .before .shared-slice-known .given i)) _ (c .before .before .refuse-on .ensures)
 
 pub act-spec : {M : Type 1} → statement M
 act-spec =

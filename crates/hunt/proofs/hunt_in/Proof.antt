@@ -20,13 +20,13 @@ use Rattle.hunt.proofs.hunt_in.Statement.{statement}
 use Rattle.hunt.proofs.hunt_in.Tie as tie
 
 abbrev Inv-hunt : tie.InvT-hunt
-Inv-hunt line rec₀ s until out₀ start at₀ wrote₀ skipped₀ rec out at wrote skipped = Going (headsOf line) (recordOf rec₀) s out₀ start at skipped wrote rec out
+Inv-hunt line table rec₀ s until out₀ start at₀ wrote₀ skipped₀ rec out at wrote skipped = Going (headsOf line) (recordOf rec₀) s out₀ start at skipped wrote rec out
 
 abbrev μ-hunt : tie.MeasureT-hunt
-μ-hunt line rec₀ s until out₀ start at₀ wrote₀ skipped₀ rec out at wrote skipped = length s - at
+μ-hunt line table rec₀ s until out₀ start at₀ wrote₀ skipped₀ rec out at wrote skipped = length s - at
 
 hunt-holds : tie.Need-hunt-holds Inv-hunt μ-hunt
-hunt-holds c = let z = c .before .before .before in going-start (headsOf (z .args .line)) (z .args .s .now) (z .args .out .now) (z .args .start) (z .args .rec .now) (z .pre .0)
+hunt-holds c = let z = c .before .before .before in going-start (headsOf (z .args .line)) (z .args .s .now) (z .args .out .now) (z .args .start) (z .args .rec .now) (z .pre .1 .0)
 
 -- where the finder stopped: the board so far, and what stands there
 module _ (f : tie.After-find Inv-hunt μ-hunt) where
@@ -66,12 +66,12 @@ module _ (l : tie.At-hunt Inv-hunt μ-hunt) where
   hunt-kept =
       let z = l .before .before .before .before .args in
       going-kept (headsOf (z .line)) (z .s .now) (z .out .now) (z .start) (recordOf (z .rec .now)) (l .hunt .at) (l .hunt .skipped) (l .hunt .wrote) (l .hunt .rec) (l .hunt .out) (l .hunt .inv)
-      ∙ sym (holds-long _ _ (l .before .before .before .before .pre .0))
+      ∙ sym (holds-long _ _ (l .before .before .before .before .pre .1 .0))
 
   hunt-long : length (l .hunt .out) ≡ length (l .before .before .before .before .args .out .now)
   hunt-long =
       let z = l .before .before .before .before .args in
-      going-long (headsOf (z .line)) (z .s .now) (z .out .now) (z .start) (recordOf (z .rec .now)) (l .hunt .at) (l .hunt .skipped) (l .hunt .wrote) (l .hunt .rec) (l .hunt .out) (l .hunt .inv) (l .before .before .before .before .pre .1 .1)
+      going-long (headsOf (z .line)) (z .s .now) (z .out .now) (z .start) (recordOf (z .rec .now)) (l .hunt .at) (l .hunt .skipped) (l .hunt .wrote) (l .hunt .rec) (l .hunt .out) (l .hunt .inv) (l .before .before .before .before .pre .1 .1 .1)
 
 find-requires : tie.Need-find-requires Inv-hunt μ-hunt
 find-requires c κs = (omega arith, omega arith, omega arith)
@@ -106,19 +106,17 @@ carry-requires c κs =
     let z = f .before .before .before .before .before .before in
     let l = f .before .before .hunt in
     let e = frame-here f _ (c .before .before .before .before .seen .given .1) in
-    let on = going-here f in (
-      going-sound (heads f) (stream f) (z .args .out .now) (z .args .start) (recordOf (z .args .rec .now)) _ _ (l .wrote) (l .rec) (l .out) on,
-      (
-        going-frame (heads f) (stream f) (z .args .out .now) (z .args .start) (recordOf (z .args .rec .now)) _ _ (l .wrote) (l .rec) (l .out) on (z .pre .1 .1) _ e (huntable (z .args .line)) (λ i. omega (arith, f .before .before .before .before .shared-slice-known .given i)),
-        going-room (heads f) (stream f) (z .args .out .now) (z .args .start) (recordOf (z .args .rec .now)) _ _ (l .wrote) (l .rec) (l .out) on (z .pre .1 .1) _ e,
-      ),
-    )
+    let on = going-here f in
+    let sound = going-sound (heads f) (stream f) (z .args .out .now) (z .args .start) (recordOf (z .args .rec .now)) _ _ (l .wrote) (l .rec) (l .out) on in
+    let whole = going-frame (heads f) (stream f) (z .args .out .now) (z .args .start) (recordOf (z .args .rec .now)) _ _ (l .wrote) (l .rec) (l .out) on (z .pre .1 .1 .1) _ e (huntable (z .args .line)) (λ i. omega (arith, f .before .before .before .before .shared-slice-known .given i)) in
+    let room = going-room (heads f) (stream f) (z .args .out .now) (z .args .start) (recordOf (z .args .rec .now)) _ _ (l .wrote) (l .rec) (l .out) on (z .pre .1 .1 .1) _ e in
+    (z .pre .0, (sound, (whole, room)))
 
 add-at : tie.Need-add-at Inv-hunt μ-hunt
-add-at c = omega (arith, c .before .before .before .before .before .before .before .before .before .before .before .before .before .before .before .before .before .pre .1 .0 .1, room-here (c .before .before .before .before .before .before .before .before .before .before .before) _ (c .before .before .before .before .before .before .before .before .before .seen .given .1))
+add-at c = omega (arith, c .before .before .before .before .before .before .before .before .before .before .before .before .before .before .before .before .before .pre .1 .1 .0 .1, room-here (c .before .before .before .before .before .before .before .before .before .before .before) _ (c .before .before .before .before .before .before .before .before .before .seen .given .1))
 
 add-at-2 : tie.Need-add-at-2 Inv-hunt μ-hunt
-add-at-2 c = omega (arith, c .before .before .before .before .before .before .before .before .before .before .before .before .before .before .before .before .before .pre .1 .0 .1, room-here (c .before .before .before .before .before .before .before .before .before .before .before) _ (c .before .before .before .before .before .before .before .before .before .seen .given .1))
+add-at-2 c = omega (arith, c .before .before .before .before .before .before .before .before .before .before .before .before .before .before .before .before .before .pre .1 .1 .0 .1, room-here (c .before .before .before .before .before .before .before .before .before .before .before) _ (c .before .before .before .before .before .before .before .before .before .seen .given .1))
 
 hunt-less : tie.Need-hunt-less Inv-hunt μ-hunt
 hunt-less c = omega (arith, room-here (c .before .before .before .before .before .before .before .before .before .before .before) _ (c .before .before .before .before .before .before .before .before .before .seen .given .1), c .before .before .before .before .before .before .before .before .before .before .before .find .ensures .passed .after)
@@ -128,7 +126,7 @@ hunt-again c =
     let f = c .before .before .before .before .before .before .before .before .before .before .before in
     let z = f .before .before .before .before .before .before in
     let l = f .before .before .hunt in
-    going-carried (heads f) (stream f) (z .args .out .now) (z .args .start) (recordOf (z .args .rec .now)) _ _ (l .wrote) (l .rec) (l .out) (going-here f) (z .pre .1 .1) _ (frame-here f _ (c .before .before .before .before .before .before .before .before .before .seen .given .1)) _ _ _ (c .before .before .before .before .carry .ensures)
+    going-carried (heads f) (stream f) (z .args .out .now) (z .args .start) (recordOf (z .args .rec .now)) _ _ (l .wrote) (l .rec) (l .out) (going-here f) (z .pre .1 .1 .1) _ (frame-here f _ (c .before .before .before .before .before .before .before .before .before .seen .given .1)) _ _ _ (c .before .before .before .before .carry .ensures)
 
 enum-told : tie.Need-enum-told Inv-hunt μ-hunt
 enum-told c = search needs

@@ -20,16 +20,20 @@ use borrow.Author.Needs.{needs}
 use Rattle.hunt.proofs.serve.Statement.{statement}
 use Rattle.hunt.proofs.serve.Tie as tie
 
+-- the start of the call, from the place behind the join
+abbrev start : tie.After-join → tie.Start
+start j = j .before .before .before .before .before .before .before
+
 -- behind the join
 module _ (j : tie.After-join) where
   abbrev rec₀ : List ℕ
-  rec₀ = j .before .before .before .before .before .before .before .args .rec .now
+  rec₀ = start j .args .rec .now
 
   abbrev input : List ℕ
-  input = j .before .before .before .before .before .before .before .args .input .now
+  input = start j .args .input .now
 
   abbrev out₀ : List ℕ
-  out₀ = j .before .before .before .before .before .before .before .args .out .now
+  out₀ = start j .args .out .now
 
   abbrev held : ℕ
   held = getD rec₀ atPendingLength 0
@@ -41,7 +45,7 @@ module _ (j : tie.After-join) where
   total = j .join .result
 
   sound : Sound rec₀
-  sound = j .before .before .before .before .before .before .before .pre .0
+  sound = start j .pre .1 .0
 
   few : held ≤ waitMost
   few = held-few rec₀ sound
@@ -67,10 +71,10 @@ module _ (f : tie.After-hunt-in) where
   at = f .hunt-in .result .at
 
   abbrev rec₁ : List ℕ
-  rec₁ = f .hunt-in .last .1 .0
+  rec₁ = f .hunt-in .last .1 .1 .0
 
   abbrev out₁ : List ℕ
-  out₁ = f .hunt-in .last .1 .1 .1 .1 .0
+  out₁ = f .hunt-in .last .1 .1 .1 .1 .1 .0
 
   within : at ≤ total j
   within = omega (arith, long j, f .hunt-in .ensures .going .sofar .along .within)
@@ -84,22 +88,22 @@ module _ (f : tie.After-hunt-in) where
   -- the hunt goes on in the input
   module _ (past : held j ≤ at) where
     starts : at - held j ≤ length (input j)
-    starts = from-inside (waiting j) (input j) (head j) (held j) (total j) (held-is (rec₀ j) (sound j)) (joins j) serial (recordOf (rec₀ j)) (out₀ j) (f .hunt-in .result) rec₁ out₁ (f .hunt-in .ensures) past (j .before .before .before .before .before .before .before .pre .1 .1)
+    starts = from-inside (waiting j) (input j) (head j) (held j) (total j) (held-is (rec₀ j) (sound j)) (joins j) serial (recordOf (rec₀ j)) (out₀ j) (f .hunt-in .result) rec₁ out₁ (f .hunt-in .ensures) past (start j .pre .1 .1 .1)
 
     fits : f .hunt-in .result .wrote + roomFor (length (take (length (input j) - (at - held j)) (drop (at - held j) (input j)))) ≤ length out₁
-    fits = rest-fits (waiting j) (input j) (head j) (held j) (total j) (held-is (rec₀ j) (sound j)) (joins j) serial (recordOf (rec₀ j)) (out₀ j) (f .hunt-in .result) rec₁ out₁ (f .hunt-in .ensures) past (j .before .before .before .before .before .before .before .pre .1 .1)
+    fits = rest-fits (waiting j) (input j) (head j) (held j) (total j) (held-is (rec₀ j) (sound j)) (joins j) serial (recordOf (rec₀ j)) (out₀ j) (f .hunt-in .result) rec₁ out₁ (f .hunt-in .ensures) past (start j .pre .1 .1 .1)
 
 slice-read-held : tie.Need-slice-read-held
-slice-read-held c = omega (arith, holds-long _ _ (c .before .before .before .before .pre .0))
+slice-read-held c = omega (arith, holds-long _ _ (c .before .before .before .before .pre .1 .0))
 
 cast-held : tie.Need-cast-held
-cast-held c = let z = c .before .before .before .before in omega (arith, held-few (z .args .rec .now) (z .pre .0))
+cast-held c = let z = c .before .before .before .before in omega (arith, held-few (z .args .rec .now) (z .pre .1 .0))
 
 slice-aggregate-join : tie.Need-slice-aggregate-join
 slice-aggregate-join c = search needs
 
 join-requires : tie.Need-join-requires
-join-requires c κs = let z = c .before .before .before .before .before .before in (held-inside (z .args .rec .now) (z .pre .0), held-few (z .args .rec .now) (z .pre .0), refl)
+join-requires c κs = let z = c .before .before .before .before .before .before in (held-inside (z .args .rec .now) (z .pre .1 .0), held-few (z .args .rec .now) (z .pre .1 .0), refl)
 
 array-share-prefix-head : tie.Need-array-share-prefix-head
 array-share-prefix-head c = let j = c .before .before in omega (arith, sum j, few j, j .join .kept)
@@ -110,7 +114,7 @@ slice-aggregate-hunt-in c = sym (long (c .before .before .before))
 hunt-in-requires : tie.Need-hunt-in-requires
 hunt-in-requires c κs =
     let j = c .before .before .before .before in
-    (sound j, ((omega (arith, long j, sum j), omega (arith, long j, sum j, few j)), omega (arith, long j, sum j, held-is (rec₀ j) (sound j), j .before .before .before .before .before .before .before .pre .1 .1)))
+    (start j .pre .0, (sound j, ((omega (arith, long j, sum j), omega (arith, long j, sum j, few j)), omega (arith, long j, sum j, held-is (rec₀ j) (sound j), start j .pre .1 .1 .1))))
 
 sub-set-pending : tie.Need-sub-set-pending
 sub-set-pending c = within (c .before .before .before .before .before .before)
@@ -148,18 +152,16 @@ part-hunt-rest-end c = search needs
 hunt-rest-requires : tie.Need-hunt-rest-requires
 hunt-rest-requires c κs =
     let f = c .before .before .before .before .before .before .before .before in
-    let j = f .before .before .before .before .before in (
-      going-sound _ _ _ _ _ _ _ _ _ _ (f .hunt-in .ensures .going),
-      (omega (arith, j .before .before .before .before .before .before .before .pre .1 .0, rest-long (input j) (at f - held j)), fits f (omega (arith, c .before .before .before .if1 .left))),
-    )
+    let j = f .before .before .before .before .before in
+    (start j .pre .0, (going-sound _ _ _ _ _ _ _ _ _ _ (f .hunt-in .ensures .going), (omega (arith, start j .pre .1 .1 .0, rest-long (input j) (at f - held j)), fits f (omega (arith, c .before .before .before .if1 .left)))))
 
-add-t36 : tie.Need-add-t36
-add-t36 c =
+add-t37 : tie.Need-add-t37
+add-t37 c =
     let f = c .before .before .before .before .before .before .before .before .before .before .before .before .before .before .before in
     let j = f .before .before .before .before .before in
     let x = c .before .before .before .before .before .before .hunt-rest .ensures .hunts .going .sofar .along in
     let y = f .hunt-in .ensures .going .sofar .along in
-    omega (arith, x .few, x .within, y .few, y .within, long j, sum j, few j, j .before .before .before .before .before .before .before .pre .1 .0, rest-long (input j) (at f - held j))
+    omega (arith, x .few, x .within, y .few, y .within, long j, sum j, few j, start j .pre .1 .1 .0, rest-long (input j) (at f - held j))
 
 same-length-3 : tie.Need-same-length-3
 same-length-3 c = search needs
@@ -172,7 +174,7 @@ returns-2 c =
     let f = c .before .before .before .before .before .before .before .before .before .before .before .before .before .before .before in
     let j = f .before .before .before .before .before in
     let rest = c .before .before .before .before .before .before .hunt-rest in
-    serves-board (recordOf (rec₀ j)) (input j) (out₀ j) _ _ _ (serves-second (waiting j) (input j) (head j) (held j) (total j) (held-is (rec₀ j) (sound j)) (joins j) serial (recordOf (rec₀ j)) (out₀ j) (f .hunt-in .result) (rec₁ f) (out₁ f) (f .hunt-in .ensures) (omega (arith, c .before .before .before .before .before .before .before .before .before .before .if1 .left)) (j .before .before .before .before .before .before .before .pre .1 .1) serial-huntable (rest .result) _ _ (rest .ensures))
+    serves-board (recordOf (rec₀ j)) (input j) (out₀ j) _ _ _ (serves-second (waiting j) (input j) (head j) (held j) (total j) (held-is (rec₀ j) (sound j)) (joins j) serial (recordOf (rec₀ j)) (out₀ j) (f .hunt-in .result) (rec₁ f) (out₁ f) (f .hunt-in .ensures) (omega (arith, c .before .before .before .before .before .before .before .before .before .before .if1 .left)) (start j .pre .1 .1 .1) serial-huntable (rest .result) _ _ (rest .ensures))
 
 pub serve-spec : {M : Type 1} → statement M
 serve-spec =
@@ -196,7 +198,7 @@ serve-spec =
     part-hunt-rest-start
     part-hunt-rest-end
     hunt-rest-requires
-    add-t36
+    add-t37
     same-length-3
     same-length-4
     returns-2)

@@ -1,26 +1,21 @@
--- `check_number`: the head chooses the table.
+-- `check_number`: what the entry says of the number is what the rows say.
 use native.Mathlib.Omega.{arith}
-use Prim.Native.Nat.{_/_}
-use borrow.Author.Tests.{eq-eqb, ne-eqb}
-use Rattle.command.specs.Tables.{listedOf}
-use borrow.Author.Needs.{needs}
+use mathlib.Core.Path.{sym}
+use Rattle.table.proofs.Rows.{unlisted, unbuilt, stands}
 use Rattle.table.proofs.check_number.Statement.{statement}
 use Rattle.table.proofs.check_number.Tie as tie
 
-bt121-row-requires : tie.Need-bt121-row-requires
-bt121-row-requires c κs = search needs
-
 returns : tie.Need-returns
-unfolding listedOf
-returns c = rw (eq-eqb (c .before .before .args .head / 16) 10 (omega arith)) (c .bt121-row .ensures)
-
-amplifier-row-requires : tie.Need-amplifier-row-requires
-amplifier-row-requires c κs = search needs
+returns c = let s = c .before .before in unlisted (s .args .entry) (s .args .head) (s .args .number) (s .pre) (omega arith) (omega arith)
 
 returns-2 : tie.Need-returns-2
-unfolding listedOf
-returns-2 c = rw (ne-eqb (c .before .before .args .head / 16) 10 (c .before .if1 .left)) (c .amplifier-row .ensures)
+returns-2 c = let s = c .before .before in unbuilt (s .args .entry) (s .args .head) (s .args .number) (s .pre) (omega arith) (c .if2 .left)
+
+command-of-requires : tie.Need-command-of-requires
+command-of-requires c κs = let s = c .before in stands (s .args .entry) (s .args .head) (s .args .number) (s .pre) (c .if1 .left)
+
+returns-3 : tie.Need-returns-3
+returns-3 c = sym (c .command-of .ensures)
 
 pub check-number-spec : {M : Type 1} → statement M
-check-number-spec =
-    tie.close (tie.spec bt121-row-requires returns amplifier-row-requires returns-2)
+check-number-spec = tie.close (tie.spec returns returns-2 command-of-requires returns-3)

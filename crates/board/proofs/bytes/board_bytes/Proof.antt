@@ -2,13 +2,16 @@
 use native.Mathlib.Omega.{arith}
 use Rattle.call.proofs.Ends.{good-long, good-sound}
 use Rattle.hunt.proofs.JoinLaws.{held-is, held-few, held-fits}
-use Rattle.board.proofs.BytesEnds.{served-small, bytes-bad-record, bytes-bad-length, bytes-no-room, bytes-done}
-use Prim.Native.Nat.{ℕ}
+use Rattle.board.proofs.BytesEnds.{served-small, bytes-bad-record, bytes-bad-length, bytes-no-room, bytes-empty, bytes-done}
+use Prim.Native.Nat.{ℕ, _≤_}
 use mathlib.Core.Path.{_≡_, refl, sym, _∙_}
 use mathlib.Core.List.{List}
+use lib.ListN.{length}
+use Rattle.wire.specs.Sizes.{inputMost, streamMost}
 use Rattle.wire.specs.Numbers.{Bytes}
 use Rattle.record.specs.Form.{formOf}
 use Rattle.record.specs.InPlace.{Sound}
+use Rattle.command.specs.Hunt.{roomFor}
 use Rattle.record.specs.declared.Form.the-variants.{Good}
 use borrow.Author.Needs.{needs}
 use Rattle.board.proofs.bytes.board_bytes.Statement.{statement}
@@ -30,6 +33,28 @@ module _ (g : tie.After-enum-told) where
 
   sound : Sound rec₀
   sound = good-sound rec₀ bytes good
+
+-- behind the room that is asked for
+module _ (q : tie.After-room-for) where
+  abbrev checked : tie.After-enum-told
+  checked = q .before .before .before
+
+  abbrev start : tie.Start
+  start = checked .before .before .before .before .before .before .before
+
+  short : length (start .args .input .now) ≤ inputMost
+  short = omega (arith, q .before .before .if1 .left)
+
+-- behind the whole stream
+module _ (v : tie.After-serve) where
+  abbrev roomed : tie.Else2
+  roomed = v .before .before .before .before .before .before
+
+  abbrev z : tie.Start
+  z = start (roomed .before)
+
+  small : (v .serve .result .written ≤ roomFor streamMost) × (v .serve .result .skipped ≤ streamMost)
+  small = served-small (z .args .rec .now) (z .args .input .now) (z .args .out .now) (v .serve .result) _ _ (sound (checked (roomed .before))) (input-bytes (checked (roomed .before))) (short (roomed .before)) (v .serve .ensures)
 
 form-of-requires : tie.Need-form-of-requires
 form-of-requires c κs = search needs
@@ -79,41 +104,49 @@ same-length-3 c = search needs
 
 returns-3 : tie.Need-returns-3
 returns-3 c =
-    let z = c .before .before .before .before .before .before .before .before .before .before .before .before .args in
-    let g = c .before .before .before .before .before in
-    bytes-no-room (z .rec .now) (z .input .now) (z .out .now) _ (good g) (bytes g) (omega (arith, c .before .before .before .before .if1 .left)) (omega (arith, c .before .if2 .taken, c .before .before .room-for .ensures)) (c .ended3 .ensures)
+    let q = c .before .before in
+    let a = start q .args in
+    bytes-no-room (a .rec .now) (a .input .now) (a .out .now) _ (good (checked q)) (bytes (checked q)) (short q) (omega (arith, c .before .if2 .taken, q .room-for .ensures)) (c .ended3 .ensures)
 
-serve-requires : tie.Need-serve-requires
-serve-requires c κs =
-    let g = c .before .before .before .before .before .before in
-    (sound g, (omega (arith, c .before .before .before .before .before .if1 .left), omega (arith, held-is (rec₀ g) (sound g), c .before .before .if2 .left, c .before .before .before .room-for .ensures)))
-
-cast-t22 : tie.Need-cast-t22
-cast-t22 c =
-    let z = c .before .before .before .before .before .before .before .before .before .before .before .before .before .before .before .before .before .before .before .args in
-    let g = c .before .before .before .before .before .before .before .before .before .before .before .before in
-    let s = c .before .before .before .before .before .serve in
-    omega (arith, served-small (z .rec .now) (z .input .now) (z .out .now) (s .result) _ _ (sound g) (input-bytes g) (omega (arith, c .before .before .before .before .before .before .before .before .before .before .before .if1 .left)) (s .ensures) .0)
-
-cast-t23 : tie.Need-cast-t23
-cast-t23 c =
-    let z = c .before .before .before .before .before .before .before .before .before .before .before .before .before .before .before .before .before .before .before .before .args in
-    let g = c .before .before .before .before .before .before .before .before .before .before .before .before .before in
-    let s = c .before .before .before .before .before .before .serve in
-    omega (arith, served-small (z .rec .now) (z .input .now) (z .out .now) (s .result) _ _ (sound g) (input-bytes g) (omega (arith, c .before .before .before .before .before .before .before .before .before .before .before .before .if1 .left)) (s .ensures) .1)
+ended-requires-4 : tie.Need-ended-requires-4
+ended-requires-4 c κs = search needs
 
 same-length-4 : tie.Need-same-length-4
 same-length-4 c = search needs
 
+returns-4 : tie.Need-returns-4
+returns-4 c =
+    let q = c .before .before .before in
+    let a = start q .args in
+    bytes-empty (a .rec .now) (a .input .now) (a .out .now) _ (good (checked q)) (bytes (checked q)) (short q) (omega (arith, c .before .before .if2 .left, q .room-for .ensures)) (c .before .if3 .taken) (c .ended4 .ensures)
+
+command-table-requires : tie.Need-command-table-requires
+command-table-requires c κs = search needs
+
+serve-requires : tie.Need-serve-requires
+serve-requires c κs =
+    let e = c .before .before .before .before .before in
+    let g = checked (e .before) in
+    (c .before .before .before .command-table .ensures, (sound g, (short (e .before), omega (arith, held-is (rec₀ g) (sound g), e .if2 .left, e .before .room-for .ensures))))
+
+cast-t26 : tie.Need-cast-t26
+cast-t26 c = omega (arith, small (c .before .before .before .before .before) .0)
+
+cast-t27 : tie.Need-cast-t27
+cast-t27 c = omega (arith, small (c .before .before .before .before .before .before) .1)
+
 same-length-5 : tie.Need-same-length-5
 same-length-5 c = search needs
 
-returns-4 : tie.Need-returns-4
-returns-4 c =
-    let z = c .before .before .before .before .before .before .before .before .before .before .before .before .before .before .before .before .before .before .before .before .args in
-    let g = c .before .before .before .before .before .before .before .before .before .before .before .before .before in
-    let s = c .before .before .before .before .before .before .serve in
-    bytes-done (z .rec .now) (z .input .now) (z .out .now) _ (good g) (bytes g) (omega (arith, c .before .before .before .before .before .before .before .before .before .before .before .before .if1 .left)) (omega (arith, c .before .before .before .before .before .before .before .before .before .if2 .left, c .before .before .before .before .before .before .before .before .before .before .room-for .ensures)) (s .result) _ _ (s .ensures) refl
+same-length-6 : tie.Need-same-length-6
+same-length-6 c = search needs
+
+returns-5 : tie.Need-returns-5
+returns-5 c =
+    let v = c .before .before .before .before .before .before in
+    let a = z v .args in
+    let q = roomed v .before in
+    bytes-done (a .rec .now) (a .input .now) (a .out .now) _ (good (checked q)) (bytes (checked q)) (short q) (omega (arith, roomed v .if2 .left, q .room-for .ensures)) (v .serve .result) _ _ (v .serve .ensures) refl
 
 pub board-bytes-spec : {M : Type 1} → statement M
 board-bytes-spec =
@@ -134,9 +167,13 @@ board-bytes-spec =
     ended-requires-3
     same-length-3
     returns-3
-    serve-requires
-    cast-t22
-    cast-t23
+    ended-requires-4
     same-length-4
+    returns-4
+    command-table-requires
+    serve-requires
+    cast-t26
+    cast-t27
     same-length-5
-    returns-4)
+    same-length-6
+    returns-5)

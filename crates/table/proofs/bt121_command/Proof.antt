@@ -1,8 +1,10 @@
--- `bt121_row`: each number of the BT121 table, and no other.
+-- `bt121_command`: each built number of the BT121 table; the last is what is left.
+use mathlib.Core.Path.{refl}
+use lib.ListN.{take, drop}
 use Rattle.command.specs.Tables.{bt121}
-use Rattle.table.proofs.Rows.{left-out}
-use Rattle.table.proofs.bt121_row.Statement.{statement}
-use Rattle.table.proofs.bt121_row.Tie as tie
+use Rattle.table.proofs.Rows.{last-left}
+use Rattle.table.proofs.bt121_command.Statement.{statement}
+use Rattle.table.proofs.bt121_command.Tie as tie
 
 returns : tie.Need-returns
 returns c = simp (c .match .keys1)
@@ -53,22 +55,10 @@ returns-16 : tie.Need-returns-16
 returns-16 c = simp (c .match .keys16)
 
 returns-17 : tie.Need-returns-17
-returns-17 c = simp (c .match .keys17)
+returns-17 c = last-left (c .before .args .number) (take 16 bt121) (drop 17 bt121) _ (c .match .rest) (refl, (refl, (refl, tt))) (c .before .pre)
 
-returns-18 : tie.Need-returns-18
-returns-18 c = simp (c .match .keys18)
-
-returns-19 : tie.Need-returns-19
-returns-19 c = simp (c .match .keys19)
-
-returns-20 : tie.Need-returns-20
-returns-20 c = simp (c .match .keys20)
-
-returns-21 : tie.Need-returns-21
-returns-21 c = left-out (c .before .args .number) bt121 (c .match .rest)
-
-pub bt121-row-spec : {M : Type 1} → statement M
-bt121-row-spec =
+pub bt121-command-spec : {M : Type 1} → statement M
+bt121-command-spec =
     tie.close
     (tie.spec
     returns
@@ -87,8 +77,4 @@ bt121-row-spec =
     returns-14
     returns-15
     returns-16
-    returns-17
-    returns-18
-    returns-19
-    returns-20
-    returns-21)
+    returns-17)
