@@ -12,10 +12,11 @@ use lib.ListN.{length, getD}
 use Rattle.command.specs.declared.Command.{Command}
 use Rattle.command.specs.declared.Listed.{Listed}
 use Rattle.command.specs.declared.Listed.the-variants.{Built, NotBuilt, Unlisted}
+use Rattle.command.specs.declared.Numbered.the-variants.{AsCommand, AsNotBuilt, AsUnknown}
 use Rattle.command.specs.declared.Need.{Need}
 use Rattle.command.specs.declared.Need.the-variants.{Nothing, Opened, Closed, Unlocked, Code}
 use Rattle.command.specs.Tables.{Span, Stands, listedOf, spanOf, needOf}
-use Rattle.command.specs.Entries.{Entry, SaysUnknown, SaysNotBuilt, Asks, saidBy, rowsSay, needBits, spanIn, needIn, isBuilt, unpacked, kindSize, headAt, placeOf, tableSize, entries}
+use Rattle.command.specs.Entries.{Entry, SaysUnknown, SaysNotBuilt, Asks, saidBy, rowsSay, numberedBy, needBits, spanIn, needIn, isBuilt, unpacked, kindSize, headAt, placeOf, tableSize, entries}
 
 -- ---- a test whether two entries are the same
 
@@ -106,35 +107,24 @@ entry-says head number h = at-half (eqb (head / 16) 0xA) refl where
       let m : number % kindSize ≡ number = omega arith in
       table-says number (omega arith) ∙ rw (lt-ltb number kindSize h, m) (half-is head number false e)
 
--- ---- what an entry says of a number
+-- ---- what an entry says of a number is what the rows say
 
--- no command of either kind
-pub said-unknown : (x : Listed) → SaysUnknown ≡ saidBy x → x ≡ Unlisted
+pub said-unknown : (x : Listed) → numberedBy (saidBy x) ≡ AsUnknown → x ≡ Unlisted
 said-unknown (Built c) e = cc
 said-unknown NotBuilt e = cc
 said-unknown Unlisted e = refl
 
-pub said-unbuilt : (x : Listed) → SaysNotBuilt ≡ saidBy x → x ≡ NotBuilt
+pub said-unbuilt : (x : Listed) → numberedBy (saidBy x) ≡ AsNotBuilt → x ≡ NotBuilt
 said-unbuilt (Built c) e = cc
 said-unbuilt NotBuilt e = refl
 said-unbuilt Unlisted e = cc
 
-pub said-built : (x : Listed) (n : Need) (s : Span) → Asks n s ≡ saidBy x → Stands x
-said-built (Built c) n s e = (c, refl)
-said-built NotBuilt n s e = let z : true ≡ false = cc in absurd (true≢false z)
-said-built Unlisted n s e = let z : true ≡ false = cc in absurd (true≢false z)
+pub said-command : (x : Listed) → numberedBy (saidBy x) ≡ AsCommand → Stands x
+said-command (Built c) e = (c, refl)
+said-command NotBuilt e = let z : true ≡ false = cc in absurd (true≢false z)
+said-command Unlisted e = let z : true ≡ false = cc in absurd (true≢false z)
 
--- a built one, told by its bits
-module _ (e : ℕ) where
-  pub not-taken : isBuilt e ≡ false → unpacked e ≡ cond (eqb e 0) SaysUnknown SaysNotBuilt
-  unfolding unpacked
-  not-taken h = rw h refl
-
-  pub taken : isBuilt e ≡ true → unpacked e ≡ Asks (needIn e) (spanIn e)
-  unfolding unpacked
-  taken h = rw h refl
-
--- what a built entry asks, column by column
+-- what the entry of a command asks, column by column
 asked-by : (b z : Bool) (m n : Need) (s t : Span) → cond b (Asks m s) (cond z SaysUnknown SaysNotBuilt) ≡ Asks n t → (b ≡ true) × (m ≡ n) × (s ≡ t)
 asked-by true z m n s t q = (refl, cc, cc)
 asked-by false true m n s t q = let z : true ≡ false = cc in absurd (true≢false z)

@@ -6,6 +6,8 @@ use lib.Dec.{ltb, eqb}
 use Rattle.record.specs.Layout.{bitOf}
 use Rattle.command.specs.declared.Listed.{Listed}
 use Rattle.command.specs.declared.Listed.the-variants.{Built, NotBuilt, Unlisted}
+use Rattle.command.specs.declared.Numbered.{Numbered}
+use Rattle.command.specs.declared.Numbered.the-variants.{AsCommand, AsNotBuilt, AsUnknown}
 use Rattle.command.specs.declared.Need.{Need}
 use Rattle.command.specs.declared.Need.the-variants.{Nothing, Opened, Closed, Unlocked, Code}
 use Rattle.command.specs.Tables.{Span, exactly, listedOf, spanOf, needOf}
@@ -24,6 +26,12 @@ saidBy (Built c) = Asks (needOf c) (spanOf c)
 
 abbrev pub rowsSay : ℕ → ℕ → Entry
 rowsSay head number = saidBy (listedOf head number)
+
+-- 40, 41: unknown or not built, or else a command
+abbrev pub numberedBy : Entry → Numbered
+numberedBy SaysUnknown = AsUnknown
+numberedBy SaysNotBuilt = AsNotBuilt
+numberedBy (Asks need span) = AsCommand
 
 -- ---- an entry as a byte
 

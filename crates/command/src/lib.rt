@@ -37,6 +37,13 @@ pub enum Listed {
     Unlisted,
 }
 
+// What an entry of the table says of its number.
+pub enum Numbered {
+    AsCommand,
+    AsNotBuilt,
+    AsUnknown,
+}
+
 // Whether the number of parameters is one that the command takes.
 pub enum Counted {
     Right,

@@ -21,17 +21,19 @@ use Rattle.record.proofs.Stores.{get-flagsIn}
 use Rattle.record.proofs.InPlaceLaws.{sound-at, here-shows}
 use Rattle.command.specs.declared.Command.{Command}
 use Rattle.command.specs.declared.Command.the-variants.{Open, Close, ReadPower, SetPower, ReadStep, SetStep, ReadMode, SetMode, ReadName, SetName, ReadOnOff, SetOnOff, SetInput, ReadInput, SwitchOutput, SetInterval, ReadInterval, Unlock, ReadLock, ReadModel, SetModel, StopSending, StartSending, ReadFilter, SetFilter, ReadPair}
-use Rattle.command.specs.declared.Listed.{Listed}
-use Rattle.command.specs.declared.Listed.the-variants.{Built, NotBuilt, Unlisted}
+use Rattle.command.specs.declared.Listed.the-variants.{Built}
+use Rattle.command.specs.declared.Numbered.{Numbered}
+use Rattle.command.specs.declared.Numbered.the-variants.{AsCommand, AsNotBuilt, AsUnknown}
 use Rattle.command.specs.declared.Counted.the-variants.{Right, Wrong}
+use Rattle.command.specs.declared.Need.{Need}
 use Rattle.command.specs.declared.Need.the-variants.{Nothing, Opened, Closed, Unlocked, Code}
 use Rattle.command.specs.declared.Access.{Access}
 use Rattle.command.specs.declared.Access.the-variants.{Given, Missing, WrongCode}
 use Rattle.command.specs.declared.Verdict.the-variants.{Do, Refuse}
 use Rattle.command.specs.declared.Refusal.the-variants.{Unknown, Unbuilt, Miscounted, NoAccess, BadCode, TooBig, TooSmall}
-use Rattle.command.specs.Tables.{Span, listedOf, spanOf, countedIn, countedOf, needOf, rangeOf}
-use Rattle.command.specs.Entries.{saidBy, rowsSay, spanIn, needIn, isBuilt, unpacked}
-use Rattle.command.proofs.EntryLaws.{asked-is}
+use Rattle.command.specs.Tables.{Span, Stands, listedOf, spanOf, countedIn, countedOf, needOf, rangeOf}
+use Rattle.command.specs.Entries.{saidBy, rowsSay, numberedBy, spanIn, needIn, isBuilt, unpacked}
+use Rattle.command.proofs.EntryLaws.{said-unknown, said-unbuilt, said-command, asked-is}
 use Rattle.command.specs.Judge.{accessOf, verdictOf}
 use Rattle.judge.specs.Checks.{asks}
 use Rattle.command.proofs.Refused.{verdict-is}
@@ -68,7 +70,7 @@ asked-least ReadFilter = zero-le
 asked-least SetFilter = zero-le
 asked-least ReadPair = zero-le
 
-pub asked : (c : Command) (n : ℕ) → countedOf c n ≡ Right → asks (needOf c) ≤ n
+asked : (c : Command) (n : ℕ) → countedOf c n ≡ Right → asks (needOf c) ≤ n
 asked c n h = le-trans (asked-least c) (counted-span c n h .0)
 
 -- ---- access
@@ -184,54 +186,66 @@ module _ (s p : List ℕ) (e : ℕ) where
       pub closed-missing : m ≡ false → (e / 16 % 2 ≡ 1 → ⊥) → Shows s Missing (λ r. accessOf (needIn e) r p)
       closed-missing t h r i q = let w : Missing ≡ found = rw (t, ne-eqb (e / 16 % 2) 1 h) refl in w ∙ by-mode r i q
 
--- the entry of a built command asks what its row asks
-module _ (e head number : ℕ) (says : unpacked e ≡ rowsSay head number) (c : Command) (l : listedOf head number ≡ Built c) where
-  asks-as : (isBuilt e ≡ true) × (needIn e ≡ needOf c) × (spanIn e ≡ spanOf c)
-  asks-as = asked-is e (needOf c) (spanOf c) (says ∙ ap saidBy l)
+-- ---- the verdict, from what the checks find in the entry e of a number under a head, with the parameters p
 
-  pub built-as : isBuilt e ≡ true
-  built-as = asks-as .0
+module _ (e head number : ℕ) (says : unpacked e ≡ rowsSay head number) (p : List ℕ) where
+  numbered : numberedBy (saidBy (listedOf head number)) ≡ numberedBy (unpacked e)
+  numbered = ap numberedBy (sym says)
 
-  pub need-as : needIn e ≡ needOf c
-  need-as = asks-as .1
-
-  pub counted-as : (n : ℕ) → countedIn (spanIn e) n ≡ countedOf c n
-  unfolding countedOf
-  counted-as n = ap (λ (s : Span). countedIn s n) (asks-as .2)
-
--- ---- the verdict
-
-module _ (r : Record) (head number : ℕ) (p : List ℕ) where
-  pub by-unbuilt : listedOf head number ≡ NotBuilt → Refuse Unbuilt ≡ verdictOf r head number p
-  by-unbuilt e = rw (verdict-is r head number p, e) refl
+  pub by-unbuilt : numberedBy (unpacked e) ≡ AsNotBuilt → (r : Record) → Refuse Unbuilt ≡ verdictOf r head number p
+  by-unbuilt h r = rw (verdict-is r head number p, said-unbuilt (listedOf head number) (numbered ∙ h)) refl
 
   -- the last answer of a check is the one that is left
-  pub by-unknown : (x : Listed) → ((c : Command) → x ≡ Built c → ⊥) → (x ≡ NotBuilt → ⊥) → listedOf head number ≡ x → Refuse Unknown ≡ verdictOf r head number p
-  by-unknown (Built c) h k e = absurd (h c refl)
-  by-unknown NotBuilt h k e = absurd (k refl)
-  by-unknown Unlisted h k e = rw (verdict-is r head number p, e) refl
+  pub by-unknown : (x : Numbered) → (x ≡ AsCommand → ⊥) → (x ≡ AsNotBuilt → ⊥) → numberedBy (unpacked e) ≡ x → (r : Record) → Refuse Unknown ≡ verdictOf r head number p
+  by-unknown AsCommand h k q r = absurd (h refl)
+  by-unknown AsNotBuilt h k q r = absurd (k refl)
+  by-unknown AsUnknown h k q r = rw (verdict-is r head number p, said-unknown (listedOf head number) (numbered ∙ q)) refl
 
+  -- a command asks what its row asks
   module _ (c : Command) (l : listedOf head number ≡ Built c) where
-    pub by-count : countedOf c (length p) ≡ Wrong → Refuse Miscounted ≡ verdictOf r head number p
-    by-count e = rw (verdict-is r head number p, l, e) refl
+    asks-as : (isBuilt e ≡ true) × (needIn e ≡ needOf c) × (spanIn e ≡ spanOf c)
+    asks-as = asked-is e (needOf c) (spanOf c) (says ∙ ap saidBy l)
 
-    module _ (n : countedOf c (length p) ≡ Right) where
-      pub by-code : accessOf (needOf c) r p ≡ WrongCode → Refuse BadCode ≡ verdictOf r head number p
-      by-code e = rw (verdict-is r head number p, l, n, e) refl
+    counted-as : countedOf c (length p) ≡ countedIn (spanIn e) (length p)
+    unfolding countedOf
+    counted-as = ap (λ (s : Span). countedIn s (length p)) (sym (asks-as .2))
 
-      pub by-access : (x : Access) → (x ≡ Given → ⊥) → (x ≡ WrongCode → ⊥) → accessOf (needOf c) r p ≡ x → Refuse NoAccess ≡ verdictOf r head number p
-      by-access Given h k e = absurd (h refl)
-      by-access Missing h k e = rw (verdict-is r head number p, l, n, e) refl
-      by-access WrongCode h k e = absurd (k refl)
+    access-as : (r : Record) → accessOf (needOf c) r p ≡ accessOf (needIn e) r p
+    access-as r = ap (λ (n : Need). accessOf n r p) (sym (asks-as .1))
 
-      module _ (a : accessOf (needOf c) r p ≡ Given) where
-        pub by-small : rangeOf c p ≡ Small → Refuse TooSmall ≡ verdictOf r head number p
-        by-small e = rw (verdict-is r head number p, l, n, a, e) refl
+  module _ (h : numberedBy (unpacked e) ≡ AsCommand) where
+    pub stands : Stands (listedOf head number)
+    stands = said-command (listedOf head number) (numbered ∙ h)
 
-        pub by-big : (x : Range) → (x ≡ Fits → ⊥) → (x ≡ Small → ⊥) → rangeOf c p ≡ x → Refuse TooBig ≡ verdictOf r head number p
-        by-big Fits h k e = absurd (h refl)
-        by-big Big h k e = rw (verdict-is r head number p, l, n, a, e) refl
-        by-big Small h k e = absurd (k refl)
+    pub by-count : countedIn (spanIn e) (length p) ≡ Wrong → (r : Record) → Refuse Miscounted ≡ verdictOf r head number p
+    by-count n r = rw (verdict-is r head number p, stands .1, counted-as (stands .0) (stands .1) ∙ n) refl
 
-        pub by-none : rangeOf c p ≡ Fits → Do c ≡ verdictOf r head number p
-        by-none e = rw (verdict-is r head number p, l, n, a, e) refl
+    module _ (n : countedIn (spanIn e) (length p) ≡ Right) where
+      pub may-ask : (isBuilt e ≡ true) × (asks (needIn e) ≤ length p)
+      may-ask =
+          let w = asks-as (stands .0) (stands .1) in
+          (w .0, rw (w .1) (asked (stands .0) (length p) (counted-as (stands .0) (stands .1) ∙ n)))
+
+      pub by-code : (r : Record) → accessOf (needIn e) r p ≡ WrongCode → Refuse BadCode ≡ verdictOf r head number p
+      by-code r a = rw (verdict-is r head number p, stands .1, counted-as (stands .0) (stands .1) ∙ n, access-as (stands .0) (stands .1) r ∙ a) refl
+
+      pub by-access : (x : Access) → (x ≡ Given → ⊥) → (x ≡ WrongCode → ⊥) → (r : Record) → accessOf (needIn e) r p ≡ x → Refuse NoAccess ≡ verdictOf r head number p
+      by-access Given g w r a = absurd (g refl)
+      by-access Missing g w r a = rw (verdict-is r head number p, stands .1, counted-as (stands .0) (stands .1) ∙ n, access-as (stands .0) (stands .1) r ∙ a) refl
+      by-access WrongCode g w r a = absurd (w refl)
+
+      module _ (c : Command) (l : listedOf head number ≡ Built c) where
+        pub counted : countedOf c (length p) ≡ Right
+        counted = counted-as c l ∙ n
+
+        module _ (r : Record) (a : accessOf (needIn e) r p ≡ Given) where
+          pub by-small : rangeOf c p ≡ Small → Refuse TooSmall ≡ verdictOf r head number p
+          by-small q = rw (verdict-is r head number p, l, counted, access-as c l r ∙ a, q) refl
+
+          pub by-big : (x : Range) → (x ≡ Fits → ⊥) → (x ≡ Small → ⊥) → rangeOf c p ≡ x → Refuse TooBig ≡ verdictOf r head number p
+          by-big Fits h k q = absurd (h refl)
+          by-big Big h k q = rw (verdict-is r head number p, l, counted, access-as c l r ∙ a, q) refl
+          by-big Small h k q = absurd (k refl)
+
+          pub by-none : rangeOf c p ≡ Fits → Do c ≡ verdictOf r head number p
+          by-none q = rw (verdict-is r head number p, l, counted, access-as c l r ∙ a, q) refl

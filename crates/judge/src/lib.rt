@@ -13,7 +13,7 @@ ghost use Rattle.judge.specs.Checks.{asks};
 use buffer::numbers::word_at;
 use command::Access;
 use command::Counted;
-use command::Listed;
+use command::Numbered;
 use command::Refusal;
 use command::Verdict;
 use range::check_range;
@@ -22,6 +22,7 @@ use record::places::AT_FLAGS;
 use record::places::AT_TRIES;
 use table::check_count;
 use table::check_number;
+use table::command_of;
 use wire::Range;
 
 fn is_open(rec: &[u8]) -> bool
@@ -99,10 +100,10 @@ pub fn judge(entry: u8, rec: &[u8], head: u8, number: u8, p: &[u8]) -> Verdict
     requires { ⌜ unpacked entry ≡ rowsSay head number ⌝ }
     ensures { λ r. ⌜ Shows (now (rec .entry)) r (λ b. verdictOf b head number (now (p .entry))) ⌝ }
 {
-    let listed = check_number(entry, head, number);
-    let Listed::Built(c) = listed else {
-        return match listed {
-            Listed::NotBuilt => Verdict::Refuse(Refusal::Unbuilt),
+    let numbered = check_number(entry);
+    let Numbered::AsCommand = numbered else {
+        return match numbered {
+            Numbered::AsNotBuilt => Verdict::Refuse(Refusal::Unbuilt),
             _ => Verdict::Refuse(Refusal::Unknown),
         };
     };
@@ -116,6 +117,7 @@ pub fn judge(entry: u8, rec: &[u8], head: u8, number: u8, p: &[u8]) -> Verdict
             _ => Verdict::Refuse(Refusal::NoAccess),
         };
     };
+    let c = command_of(head, number);
     let range = check_range(c, p);
     let Range::Fits = range else {
         return match range {

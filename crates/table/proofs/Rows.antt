@@ -7,13 +7,11 @@ use mathlib.Core.List.{List, [], _∷_, _++_}
 use native.Mathlib.Omega.{arith}
 use borrow.Author.Tests.{lt-ltb, le-ltb, le-leb, lt-leb, eq-eqb, ne-eqb, ltb-true, ltb-false}
 use lib.Dec.{ltb, eqb}
-use Rattle.command.specs.declared.Command.{Command}
-use Rattle.command.specs.declared.Listed.{Listed}
-use Rattle.command.specs.declared.Listed.the-variants.{Built, NotBuilt, Unlisted}
+use Rattle.command.specs.declared.Listed.the-variants.{Built, NotBuilt}
+use Rattle.command.specs.declared.Numbered.the-variants.{AsCommand, AsNotBuilt, AsUnknown}
 use Rattle.command.specs.declared.Counted.the-variants.{Right, Wrong}
 use Rattle.command.specs.Tables.{CommandRow, bt121, amplifier, lookUp, Stands, listedOf, Span, exactly, countedIn}
-use Rattle.command.specs.Entries.{rowsSay, spanIn, isBuilt, unpacked}
-use Rattle.command.proofs.EntryLaws.{said-unknown, said-unbuilt, said-built, not-taken, taken}
+use Rattle.command.specs.Entries.{numberedBy, spanIn, unpacked}
 
 -- ---- the command of a built number
 
@@ -59,17 +57,21 @@ module _ (head number : ℕ) where
   unfolding listedOf
   in-amplifier h = rw (ne-eqb (head / 16) 10 h) refl
 
--- ---- whether a number is built
+-- ---- whether a number is that of a command
 
-module _ (e head number : ℕ) (says : unpacked e ≡ rowsSay head number) where
-  pub unlisted : e / 8 % 4 ≡ 0 → e ≡ 0 → Unlisted ≡ listedOf head number
-  unlisted m z = sym (said-unknown (listedOf head number) (rw (not-taken e (rw (eq-eqb (e / 8 % 4) 0 m) refl), eq-eqb e 0 z) at says))
+module _ (e : ℕ) where
+  pub as-command : (e / 8 % 4 ≡ 0 → ⊥) → AsCommand ≡ numberedBy (unpacked e)
+  unfolding unpacked
+  as-command h = rw (ne-eqb (e / 8 % 4) 0 h) refl
 
-  pub unbuilt : e / 8 % 4 ≡ 0 → (e ≡ 0 → ⊥) → NotBuilt ≡ listedOf head number
-  unbuilt m z = sym (said-unbuilt (listedOf head number) (rw (not-taken e (rw (eq-eqb (e / 8 % 4) 0 m) refl), ne-eqb e 0 z) at says))
+  module _ (free : e / 8 % 4 ≡ 0) where
+    pub as-unknown : e ≡ 0 → AsUnknown ≡ numberedBy (unpacked e)
+    unfolding unpacked
+    as-unknown z = rw (eq-eqb (e / 8 % 4) 0 free, eq-eqb e 0 z) refl
 
-  pub stands : (e / 8 % 4 ≡ 0 → ⊥) → Stands (listedOf head number)
-  stands m = said-built (listedOf head number) _ _ (rw (taken e (rw (ne-eqb (e / 8 % 4) 0 m) refl)) at says)
+    pub as-unbuilt : (e ≡ 0 → ⊥) → AsNotBuilt ≡ numberedBy (unpacked e)
+    unfolding unpacked
+    as-unbuilt z = rw (eq-eqb (e / 8 % 4) 0 free, ne-eqb e 0 z) refl
 
 -- ---- how many parameters
 

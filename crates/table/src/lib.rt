@@ -2,11 +2,12 @@
 ghost use mathlib.Core.Path.{_≡_};
 ghost use Prim.Native.Nat.{_<_};
 ghost use Rattle.command.specs.Tables.{bt121, amplifier, lookUp, Stands, listedOf, countedIn};
-ghost use Rattle.command.specs.Entries.{spanIn, unpacked, rowsSay, placeOf, tableSize, entries};
+ghost use Rattle.command.specs.Entries.{numberedBy, spanIn, unpacked, rowsSay, placeOf, tableSize, entries};
 ghost use Rattle.command.specs.Judge.{statusOf};
 use command::Command;
 use command::Counted;
 use command::Listed;
+use command::Numbered;
 use command::Refusal;
 
 pub mod entries;
@@ -32,7 +33,39 @@ pub fn entry_of(table: &[u8; TABLE_SIZE], head: u8, number: u8) -> u8
     table[i]
 }
 
-// Which command a built number is.
+// 40, 41: whether the number is that of a command.
+pub fn check_number(entry: u8) -> Numbered
+    ensures { λ r. ⌜ r ≡ numberedBy (unpacked entry) ⌝ }
+{
+    if entry / 8 % 4 != 0 {
+        return Numbered::AsCommand;
+    }
+    if entry == 0 {
+        return Numbered::AsUnknown;
+    }
+    Numbered::AsNotBuilt
+}
+
+// 5B: how many parameters.
+pub fn check_count(entry: u8, n: usize) -> Counted
+    ensures { λ r. ⌜ r ≡ countedIn (spanIn entry) n ⌝ }
+{
+    let span = (entry % 8) as usize;
+    if span < 5 {
+        if n == span {
+            return Counted::Right;
+        }
+        return Counted::Wrong;
+    }
+    if n < span - 5 {
+        return Counted::Wrong;
+    }
+    if 15 < n {
+        return Counted::Wrong;
+    }
+    Counted::Right
+}
+
 fn bt121_command(number: u8) -> Command
     requires { ⌜ Stands (lookUp number bt121) ⌝ }
     ensures { λ r. ⌜ lookUp number bt121 ≡ Listed.Built r ⌝ }
@@ -75,7 +108,8 @@ fn amplifier_command(number: u8) -> Command
     }
 }
 
-fn command_of(head: u8, number: u8) -> Command
+// Which command a built number is.
+pub fn command_of(head: u8, number: u8) -> Command
     requires { ⌜ Stands (listedOf head number) ⌝ }
     ensures { λ r. ⌜ listedOf head number ≡ Listed.Built r ⌝ }
 {
@@ -83,40 +117,6 @@ fn command_of(head: u8, number: u8) -> Command
         return bt121_command(number);
     }
     amplifier_command(number)
-}
-
-// 40, 41: whether the number is built, and which command it is.
-pub fn check_number(entry: u8, head: u8, number: u8) -> Listed
-    requires { ⌜ unpacked entry ≡ rowsSay head number ⌝ }
-    ensures { λ r. ⌜ r ≡ listedOf head number ⌝ }
-{
-    if entry / 8 % 4 == 0 {
-        if entry == 0 {
-            return Listed::Unlisted;
-        }
-        return Listed::NotBuilt;
-    }
-    Listed::Built(command_of(head, number))
-}
-
-// 5B: how many parameters.
-pub fn check_count(entry: u8, n: usize) -> Counted
-    ensures { λ r. ⌜ r ≡ countedIn (spanIn entry) n ⌝ }
-{
-    let span = (entry % 8) as usize;
-    if span < 5 {
-        if n == span {
-            return Counted::Right;
-        }
-        return Counted::Wrong;
-    }
-    if n < span - 5 {
-        return Counted::Wrong;
-    }
-    if 15 < n {
-        return Counted::Wrong;
-    }
-    Counted::Right
 }
 
 pub fn status_of(why: Refusal) -> u8
