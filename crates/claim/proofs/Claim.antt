@@ -6,6 +6,7 @@ use Rattle.demands.proofs.EndsProperly.{ends-properly}
 use Rattle.demands.proofs.Room.{room}
 use Rattle.demands.proofs.Stored.{stored}
 use Rattle.demands.proofs.AsListed.{answers-as-listed}
+use Rattle.demands.proofs.OneTable.{one-table}
 use Rattle.demands.proofs.Boards.{wrong-shut-out, kinds-exist}
 use Rattle.demands.proofs.Examples.{starred-hold}
 use Rattle.demands.proofs.Secrecy.{compared, one-call, nothing-told, nothing-told-used-up, premise-met, premise-needed}
@@ -18,6 +19,7 @@ claim = record {
   room = room;
   stored = stored;
   answers = answers-as-listed;
+  table = one-table;
   shut-out = wrong-shut-out;
   kinds = kinds-exist;
   examples = starred-hold;

@@ -5,6 +5,7 @@ use Rattle.demands.specs.EndsProperly.{EndsProperly}
 use Rattle.demands.specs.Room.{Room}
 use Rattle.demands.specs.Stored.{Stored}
 use Rattle.demands.specs.AsListed.{AnswersAsListed}
+use Rattle.demands.specs.OneTable.{OneTable}
 use Rattle.demands.specs.Boards.{WrongShutOut, KindsExist}
 use Rattle.demands.specs.Examples.{starred, ExamplesHold}
 use Rattle.demands.specs.Premise.{ComparedExactly}
@@ -20,6 +21,7 @@ pub record Claim : Type 1 where
   -- 2: the board answers as the tables say
   pub stored : Stored
   pub answers : AnswersAsListed
+  pub table : OneTable
   pub shut-out : WrongShutOut
   pub kinds : KindsExist
   pub examples : ExamplesHold starred

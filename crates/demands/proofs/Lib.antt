@@ -13,5 +13,6 @@ pub mod EndsProperly
 pub mod Room
 pub mod Stored
 pub mod AsListed
+pub mod OneTable
 pub mod Boards
 pub mod Secrecy

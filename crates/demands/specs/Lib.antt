@@ -6,5 +6,6 @@ pub mod EndsProperly
 pub mod Room
 pub mod Stored
 pub mod AsListed
+pub mod OneTable
 pub mod Boards
 pub mod Secrecy

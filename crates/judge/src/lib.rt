@@ -23,6 +23,10 @@ use record::places::AT_TRIES;
 use table::check_count;
 use table::check_number;
 use table::command_of;
+use table::entries::CLOSED;
+use table::entries::CODE;
+use table::entries::LOCK;
+use table::entries::OPENED;
 use wire::Range;
 
 fn is_open(rec: &[u8]) -> bool
@@ -77,19 +81,19 @@ fn check_access(entry: u8, rec: &[u8], p: &[u8]) -> Access
     requires { ⌜ (isBuilt entry ≡ true) × (asks (needIn entry) ≤ length (now p)) ⌝ }
     ensures { λ r. ⌜ Shows (now (rec .entry)) r (λ b. accessOf (needIn entry) b (now (p .entry))) ⌝ }
 {
-    if entry / 64 % 2 == 1 {
+    if entry / CODE % 2 == 1 {
         return code_access(rec, p);
     }
-    if entry / 32 % 2 == 1 {
+    if entry / LOCK % 2 == 1 {
         return lock_access(rec);
     }
     if is_open(rec) {
-        if entry / 8 % 2 == 1 {
+        if entry / OPENED % 2 == 1 {
             return Access::Given;
         }
         return Access::Missing;
     }
-    if entry / 16 % 2 == 1 {
+    if entry / CLOSED % 2 == 1 {
         return Access::Given;
     }
     Access::Missing

@@ -49,13 +49,13 @@ last-left n rows rest x h u w = on ∙ by (eqb n (x .number)) refl where
 
 -- the head chooses the table
 module _ (head number : ℕ) where
-  pub in-bt121 : head / 16 ≡ 10 → listedOf head number ≡ lookUp number bt121
+  pub in-bt121 : eqb (head / 16) 0xA ≡ true → listedOf head number ≡ lookUp number bt121
   unfolding listedOf
-  in-bt121 h = rw (eq-eqb (head / 16) 10 h) refl
+  in-bt121 h = rw h refl
 
-  pub in-amplifier : (head / 16 ≡ 10 → ⊥) → listedOf head number ≡ lookUp number amplifier
+  pub in-amplifier : eqb (head / 16) 0xA ≡ false → listedOf head number ≡ lookUp number amplifier
   unfolding listedOf
-  in-amplifier h = rw (ne-eqb (head / 16) 10 h) refl
+  in-amplifier h = rw h refl
 
 -- ---- whether a number is that of a command
 

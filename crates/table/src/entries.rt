@@ -1,6 +1,5 @@
-// One table for all command numbers: under each kind of head, for each number, one byte that says unknown, not built, or
-// what the command needs of the board and how many parameters it takes. What an entry's bits mean is in the definitions
-// (`command/specs/Entries`); that the table says what the rows say is proved over all of it.
+// One table for all command numbers, 256 entries for 9n and then 256 for An: each says unknown, not built, or what the
+// command needs of the board and how many parameters it takes. Bit 7 is free.
 ghost use mathlib.Core.Path.{_≡_};
 ghost use Rattle.command.specs.Entries.{entries};
 
@@ -9,7 +8,7 @@ const UNKNOWN: u8 = 0x00;
 
 const NOT_BUILT: u8 = 0x01;
 
-// How many parameters: exactly so many, or so many to 15.
+// Bits 0 to 2, how many parameters: exactly so many, or so many to 15.
 const NONE: u8 = 0;
 
 const ONE: u8 = 1;
@@ -18,20 +17,25 @@ const TWO: u8 = 2;
 
 const FOUR: u8 = 4;
 
-const FROM_0: u8 = 5;
+pub const FROM_0: u8 = 5;
 
-const FROM_1: u8 = 6;
+const FROM_1: u8 = FROM_0 + 1;
 
-// What the board has to be: in any mode, with configuration mode open, with it closed, also unlocked, also given the code.
-const ALWAYS: u8 = 0x18;
+// Bits 3 and 4: taken while configuration mode is open, while it is closed.
+pub const OPENED: u8 = 0x08;
 
-const OPENED: u8 = 0x08;
+pub const CLOSED: u8 = 0x10;
 
-const CLOSED: u8 = 0x10;
+const ALWAYS: u8 = OPENED + CLOSED;
 
-const UNLOCKED: u8 = 0x30;
+// Bits 5 and 6: asks for an unlocked board, for the code.
+pub const LOCK: u8 = 0x20;
 
-const CODE: u8 = 0x50;
+pub const CODE: u8 = 0x40;
+
+const UNLOCKED: u8 = CLOSED + LOCK;
+
+const CODED: u8 = CLOSED + CODE;
 
 // 256 entries for each kind of head.
 pub const KIND_SIZE: usize = 256;
@@ -67,7 +71,7 @@ const ENTRIES: [u8; TABLE_SIZE] = [
     UNKNOWN,
     NOT_BUILT, // 17 read a calibration value
     NOT_BUILT, // 18 write a calibration value
-    CODE + FOUR, // 19 unlock
+    CODED + FOUR, // 19 unlock
     CLOSED + NONE, // 1A read lock
     CLOSED + NONE, // 1B read model
     UNLOCKED + FROM_1, // 1C set model

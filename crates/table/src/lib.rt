@@ -1,24 +1,33 @@
 // What the entry of a number decides: whether it is built, how many parameters it takes; which command a built number is.
 ghost use mathlib.Core.Path.{_≡_};
-ghost use Prim.Native.Nat.{_<_};
+ghost use Prim.Native.Nat.{_/_, _<_};
+ghost use lib.Dec.{eqb};
+ghost use Rattle.command.specs.declared.Listed.the-variants.{Built};
 ghost use Rattle.command.specs.Tables.{bt121, amplifier, lookUp, Stands, listedOf, countedIn};
 ghost use Rattle.command.specs.Entries.{numberedBy, spanIn, unpacked, rowsSay, placeOf, tableSize, entries};
 ghost use Rattle.command.specs.Judge.{statusOf};
 use command::Command;
 use command::Counted;
-use command::Listed;
 use command::Numbered;
 use command::Refusal;
+use entries::FROM_0;
+use entries::KIND_SIZE;
+use entries::OPENED;
+use entries::TABLE_SIZE;
 
 pub mod entries;
 
-use entries::KIND_SIZE;
-use entries::TABLE_SIZE;
+// An heads the BT121 commands, every other head the amplifier's.
+fn is_bt121(head: u8) -> bool
+    ensures { λ r. ⌜ r ≡ eqb (head / 16) 0xA ⌝ }
+{
+    head / 16 == 10
+}
 
 fn place_of(head: u8, number: u8) -> usize
     ensures { λ i. ⌜ (i ≡ placeOf head number) × (i < tableSize) ⌝ }
 {
-    if head / 16 == 10 {
+    if is_bt121(head) {
         return KIND_SIZE + (number as usize);
     }
     number as usize
@@ -37,7 +46,8 @@ pub fn entry_of(table: &[u8; TABLE_SIZE], head: u8, number: u8) -> u8
 pub fn check_number(entry: u8) -> Numbered
     ensures { λ r. ⌜ r ≡ numberedBy (unpacked entry) ⌝ }
 {
-    if entry / 8 % 4 != 0 {
+    // taken in one mode or in both
+    if entry / OPENED % 4 != 0 {
         return Numbered::AsCommand;
     }
     if entry == 0 {
@@ -46,21 +56,26 @@ pub fn check_number(entry: u8) -> Numbered
     Numbered::AsNotBuilt
 }
 
+// From this on, bits 0 to 2 say so many to 15.
+const FROM: usize = FROM_0 as usize;
+
+const MOST: usize = 15;
+
 // 5B: how many parameters.
 pub fn check_count(entry: u8, n: usize) -> Counted
     ensures { λ r. ⌜ r ≡ countedIn (spanIn entry) n ⌝ }
 {
     let span = (entry % 8) as usize;
-    if span < 5 {
+    if span < FROM {
         if n == span {
             return Counted::Right;
         }
         return Counted::Wrong;
     }
-    if n < span - 5 {
+    if n < span - FROM {
         return Counted::Wrong;
     }
-    if 15 < n {
+    if MOST < n {
         return Counted::Wrong;
     }
     Counted::Right
@@ -68,7 +83,7 @@ pub fn check_count(entry: u8, n: usize) -> Counted
 
 fn bt121_command(number: u8) -> Command
     requires { ⌜ Stands (lookUp number bt121) ⌝ }
-    ensures { λ r. ⌜ lookUp number bt121 ≡ Listed.Built r ⌝ }
+    ensures { λ r. ⌜ lookUp number bt121 ≡ Built r ⌝ }
 {
     match number {
         0xE0 => Command::Open,
@@ -93,7 +108,7 @@ fn bt121_command(number: u8) -> Command
 
 fn amplifier_command(number: u8) -> Command
     requires { ⌜ Stands (lookUp number amplifier) ⌝ }
-    ensures { λ r. ⌜ lookUp number amplifier ≡ Listed.Built r ⌝ }
+    ensures { λ r. ⌜ lookUp number amplifier ≡ Built r ⌝ }
 {
     match number {
         0x19 => Command::Unlock,
@@ -111,9 +126,9 @@ fn amplifier_command(number: u8) -> Command
 // Which command a built number is.
 pub fn command_of(head: u8, number: u8) -> Command
     requires { ⌜ Stands (listedOf head number) ⌝ }
-    ensures { λ r. ⌜ listedOf head number ≡ Listed.Built r ⌝ }
+    ensures { λ r. ⌜ listedOf head number ≡ Built r ⌝ }
 {
-    if head / 16 == 10 {
+    if is_bt121(head) {
         return bt121_command(number);
     }
     amplifier_command(number)
