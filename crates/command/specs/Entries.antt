@@ -55,12 +55,15 @@ packed (Asks need span) = needBits need + spanBits span
 
 -- ---- what a byte says
 
+-- the least and most parameters
 abbrev pub spanIn : ℕ → Span
 spanIn e = cond (ltb (e % 8) 5) (exactly (e % 8)) (record { least = e % 8 - 5; most = 15 })
 
+-- the access needed
 abbrev pub needIn : ℕ → Need
 needIn e = cond (bitOf e 0x40) Code (cond (bitOf e 0x20) Unlocked (cond (bitOf e 0x10) (cond (bitOf e 0x08) Nothing Closed) Opened))
 
+-- taken in one mode, or in both
 abbrev pub isBuilt : ℕ → Bool
 isBuilt e = not (eqb (e / 8 % 4) 0)
 
