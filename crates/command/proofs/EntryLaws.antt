@@ -7,9 +7,8 @@ use native.Mathlib.Nat.{add-zero, zero-add, add-suc, suc-add, le-of-suc-le-suc, 
 use native.Mathlib.Omega.{arith}
 use mir.Facts.{and-yes}
 use borrow.Author.Tests.{lt-ltb, le-ltb}
-use lib.Dec.{T, ltb, eqb, eqb→eq}
+use lib.Dec.{T, eqb, eqb→eq}
 use lib.ListN.{length, getD}
-use Rattle.command.specs.declared.Command.{Command}
 use Rattle.command.specs.declared.Listed.{Listed}
 use Rattle.command.specs.declared.Listed.the-variants.{Built, NotBuilt, Unlisted}
 use Rattle.command.specs.declared.Numbered.the-variants.{AsCommand, AsNotBuilt, AsUnknown}
