@@ -108,6 +108,10 @@ entry-says head number h = at-half (eqb (head / 16) 0xA) refl where
 
 -- ---- what an entry says of a number is what the rows say
 
+-- no case is another
+pub apart : {A : Type 0} → true ≡ false → A
+apart z = absurd (true≢false z)
+
 pub said-unknown : (x : Listed) → numberedBy (saidBy x) ≡ AsUnknown → x ≡ Unlisted
 said-unknown (Built c) e = cc
 said-unknown NotBuilt e = cc
@@ -120,14 +124,14 @@ said-unbuilt Unlisted e = cc
 
 pub said-command : (x : Listed) → numberedBy (saidBy x) ≡ AsCommand → Stands x
 said-command (Built c) e = (c, refl)
-said-command NotBuilt e = let z : true ≡ false = cc in absurd (true≢false z)
-said-command Unlisted e = let z : true ≡ false = cc in absurd (true≢false z)
+said-command NotBuilt e = apart cc
+said-command Unlisted e = apart cc
 
 -- what the entry of a command asks, column by column
 asked-by : (b z : Bool) (m n : Need) (s t : Span) → cond b (Asks m s) (cond z SaysUnknown SaysNotBuilt) ≡ Asks n t → (b ≡ true) × (m ≡ n) × (s ≡ t)
 asked-by true z m n s t q = (refl, cc, cc)
-asked-by false true m n s t q = let z : true ≡ false = cc in absurd (true≢false z)
-asked-by false false m n s t q = let z : true ≡ false = cc in absurd (true≢false z)
+asked-by false true m n s t q = apart cc
+asked-by false false m n s t q = apart cc
 
 pub asked-is : (e : ℕ) (n : Need) (s : Span) → unpacked e ≡ Asks n s → (isBuilt e ≡ true) × (needIn e ≡ n) × (spanIn e ≡ s)
 unfolding unpacked

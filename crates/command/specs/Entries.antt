@@ -39,7 +39,7 @@ numberedBy (Asks need span) = AsCommand
 abbrev pub spanBits : Span → ℕ
 spanBits s = cond (eqb (s .least) (s .most)) (s .least) (5 + s .least)
 
--- bit 3: taken while configuration mode is open; bit 4: while it is closed; bits 5, 6: and asks for an unlocked board, for the code
+-- bit 3: taken while configuration mode is open; bit 4: while it is closed; bits 5 and 6, beside bit 4 alone: asks also for an unlocked board, for the code
 abbrev pub needBits : Need → ℕ
 needBits Nothing = 0x18
 needBits Opened = 0x08

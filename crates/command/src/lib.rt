@@ -30,7 +30,7 @@ pub enum Command {
     ReadPair,
 }
 
-// What the tables say of a number.
+// What a row says of its number; the definitions' word.
 pub enum Listed {
     Built(Command),
     NotBuilt,
@@ -50,7 +50,7 @@ pub enum Counted {
     Wrong,
 }
 
-// What a command needs of the board before it is carried out.
+// What a command needs of the board before it is carried out; the definitions' word, in code a part of the entry.
 pub enum Need {
     Nothing,
     Opened,

@@ -148,7 +148,7 @@ taken-in false false m b r p q = absurd (true≢false (sym (b refl)))
 low-bit : (a : ℕ) → (a % 4 ≡ 0 → ⊥) → (a / 2 % 2 ≡ 1 → ⊥) → a % 2 ≡ 1
 low-bit a h k = let d : a / 2 / 2 ≡ a / 4 = div-div-eq-div-mul a 2 2 in omega (arith, d, h, k)
 
-module _ (s p : List ℕ) (e : ℕ) where
+module _ (e : ℕ) where
   -- bit 6
   pub asks-code : e / 64 % 2 ≡ 1 → needIn e ≡ Code
   asks-code h = rw (eq-eqb (e / 64 % 2) 1 h) refl
@@ -159,7 +159,7 @@ module _ (s p : List ℕ) (e : ℕ) where
     asks-unlocked h = rw (ne-eqb (e / 64 % 2) 1 uncoded, eq-eqb (e / 32 % 2) 1 h) refl
 
     -- bits 3 and 4
-    module _ (unlocking : e / 32 % 2 ≡ 1 → ⊥) (built : isBuilt e ≡ true) (m : Bool) (shows : ShowsAt FlagByte atFlags s m (λ r. r .flags .opened)) where
+    module _ (unlocking : e / 32 % 2 ≡ 1 → ⊥) (built : isBuilt e ≡ true) (s p : List ℕ) (m : Bool) (shows : ShowsAt FlagByte atFlags s m (λ r. r .flags .opened)) where
       one-bit : bitOf e 0x10 ≡ false → bitOf e 0x08 ≡ true
       one-bit t =
           let a = eqb-false (e / 16 % 2) 1 t in
@@ -169,22 +169,26 @@ module _ (s p : List ℕ) (e : ℕ) where
       abbrev found : Access
       found = cond m (cond (bitOf e 0x08) Given Missing) (cond (bitOf e 0x10) Given Missing)
 
-      by-mode : Shows s found (λ r. accessOf (needIn e) r p)
-      by-mode r i q =
-          rw (ne-eqb (e / 64 % 2) 1 uncoded, ne-eqb (e / 32 % 2) 1 unlocking)
+      -- what the mode gives, as what the tests of the code find
+      pub by-mode : (x : Access) → x ≡ found → Shows s x (λ r. accessOf (needIn e) r p)
+      by-mode x w r i q =
+          w
+          ∙ rw (ne-eqb (e / 64 % 2) 1 uncoded, ne-eqb (e / 32 % 2) 1 unlocking)
           (taken-in (bitOf e 0x08) (bitOf e 0x10) m one-bit r p (sym (flag-here s m (λ b. b .flags .opened) shows r i q)))
 
-      pub open-given : m ≡ true → e / 8 % 2 ≡ 1 → Shows s Given (λ r. accessOf (needIn e) r p)
-      open-given t h r i q = let w : Given ≡ found = rw (t, eq-eqb (e / 8 % 2) 1 h) refl in w ∙ by-mode r i q
+-- the four ways to that
+module _ (m o c : Bool) where
+  pub open-given : m ≡ true → o ≡ true → Given ≡ cond m (cond o Given Missing) (cond c Given Missing)
+  open-given t h = rw (t, h) refl
 
-      pub open-missing : m ≡ true → (e / 8 % 2 ≡ 1 → ⊥) → Shows s Missing (λ r. accessOf (needIn e) r p)
-      open-missing t h r i q = let w : Missing ≡ found = rw (t, ne-eqb (e / 8 % 2) 1 h) refl in w ∙ by-mode r i q
+  pub open-missing : m ≡ true → o ≡ false → Missing ≡ cond m (cond o Given Missing) (cond c Given Missing)
+  open-missing t h = rw (t, h) refl
 
-      pub closed-given : m ≡ false → e / 16 % 2 ≡ 1 → Shows s Given (λ r. accessOf (needIn e) r p)
-      closed-given t h r i q = let w : Given ≡ found = rw (t, eq-eqb (e / 16 % 2) 1 h) refl in w ∙ by-mode r i q
+  pub closed-given : m ≡ false → c ≡ true → Given ≡ cond m (cond o Given Missing) (cond c Given Missing)
+  closed-given t h = rw (t, h) refl
 
-      pub closed-missing : m ≡ false → (e / 16 % 2 ≡ 1 → ⊥) → Shows s Missing (λ r. accessOf (needIn e) r p)
-      closed-missing t h r i q = let w : Missing ≡ found = rw (t, ne-eqb (e / 16 % 2) 1 h) refl in w ∙ by-mode r i q
+  pub closed-missing : m ≡ false → c ≡ false → Missing ≡ cond m (cond o Given Missing) (cond c Given Missing)
+  closed-missing t h = rw (t, h) refl
 
 -- ---- the verdict, from what the checks find in the entry e of a number under a head, with the parameters p
 

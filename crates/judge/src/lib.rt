@@ -99,6 +99,7 @@ fn check_access(entry: u8, rec: &[u8], p: &[u8]) -> Access
     Access::Missing
 }
 
+// The entry decides; head and number only name the command.
 pub fn judge(entry: u8, rec: &[u8], head: u8, number: u8, p: &[u8]) -> Verdict
     requires { ⌜ Sound (now rec) ⌝ }
     requires { ⌜ unpacked entry ≡ rowsSay head number ⌝ }

@@ -2,7 +2,7 @@
 use Prim.Native.Nat.{ℕ, _-_, _/_, _%_, _≤_, _<_}
 use mathlib.Core.Path.{_≡_, refl, sym, _∙_}
 use mathlib.Core.Logic.{_⊎_, inl, inr, ⊎-elim}
-use mathlib.Core.Bool.{Bool, true, false, true≢false}
+use mathlib.Core.Bool.{Bool, true, false}
 use mathlib.Core.List.{List, [], _∷_, _++_}
 use native.Mathlib.Omega.{arith}
 use borrow.Author.Tests.{lt-ltb, le-ltb, le-leb, lt-leb, eq-eqb, ne-eqb, ltb-true, ltb-false}
@@ -12,6 +12,7 @@ use Rattle.command.specs.declared.Numbered.the-variants.{AsCommand, AsNotBuilt,
 use Rattle.command.specs.declared.Counted.the-variants.{Right, Wrong}
 use Rattle.command.specs.Tables.{CommandRow, bt121, amplifier, lookUp, Stands, listedOf, Span, exactly, countedIn}
 use Rattle.command.specs.Entries.{numberedBy, spanIn, unpacked}
+use Rattle.command.proofs.EntryLaws.{apart}
 
 -- ---- the command of a built number
 
@@ -30,11 +31,11 @@ Unbuilts [] = Unit {0}
 Unbuilts (x ∷ rows) = (x .listed ≡ NotBuilt) × Unbuilts rows
 
 skip-row : (n : ℕ) (x : CommandRow) (rows : List CommandRow) → x .listed ≡ NotBuilt → (b : Bool) → eqb n (x .number) ≡ b → Stands (lookUp n (x ∷ rows)) → Stands (lookUp n rows)
-skip-row n x rows u true e w = let q : NotBuilt ≡ Built (w .0) = sym u ∙ (rw e at (w .1)) in let z : true ≡ false = cc in absurd (true≢false z)
+skip-row n x rows u true e w = let q : NotBuilt ≡ Built (w .0) = sym u ∙ (rw e at (w .1)) in apart cc
 skip-row n x rows u false e w = (w .0, rw e at (w .1))
 
 none-stands : (n : ℕ) (rows : List CommandRow) → Unbuilts rows → ¬ Stands (lookUp n rows)
-none-stands n [] u w = let e = w .1 in let z : true ≡ false = cc in true≢false z
+none-stands n [] u w = let e = w .1 in apart cc
 none-stands n (x ∷ rows) u w = none-stands n rows (u .1) (skip-row n x rows (u .0) (eqb n (x .number)) refl w)
 
 -- the last command is what is left for a built number
@@ -75,8 +76,8 @@ module _ (e : ℕ) where
 
 -- ---- how many parameters
 
-apart : (a b : ℕ) → (a ≡ b → ⊥) → (a < b) ⊎ (b < a)
-apart a b h = by (ltb a b) refl where
+either-side : (a b : ℕ) → (a ≡ b → ⊥) → (a < b) ⊎ (b < a)
+either-side a b h = by (ltb a b) refl where
   by : (t : Bool) → ltb a b ≡ t → (a < b) ⊎ (b < a)
   by true e = inl (ltb-true a b e)
   by false e = inr (omega (arith, ltb-false a b e, h))
@@ -101,7 +102,7 @@ module _ (e n : ℕ) where
     count-exact h = rw (lt-ltb span 5 exact) (enough (exactly span) n (omega arith) (omega arith))
 
     pub count-other : (n ≡ span → ⊥) → Wrong ≡ countedIn (spanIn e) n
-    count-other h = rw (lt-ltb span 5 exact) (⊎-elim (λ k. few (exactly span) n k) (λ k. many (exactly span) n (omega arith) k) (apart n span h))
+    count-other h = rw (lt-ltb span 5 exact) (⊎-elim (λ k. few (exactly span) n k) (λ k. many (exactly span) n (omega arith) k) (either-side n span h))
 
   -- so many to 15
   module _ (ranged : 5 ≤ span) where

@@ -4,11 +4,13 @@ ghost use mathlib.Core.Path.{_≡_};
 ghost use Rattle.command.specs.Entries.{entries};
 
 // No command.
-const UNKNOWN: u8 = 0x00;
+pub const UNKNOWN: u8 = 0x00;
 
 const NOT_BUILT: u8 = 0x01;
 
 // Bits 0 to 2, how many parameters: exactly so many, or so many to 15.
+pub const SPANS: u8 = 8;
+
 const NONE: u8 = 0;
 
 const ONE: u8 = 1;
@@ -28,7 +30,7 @@ pub const CLOSED: u8 = 0x10;
 
 const ALWAYS: u8 = OPENED + CLOSED;
 
-// Bits 5 and 6: asks for an unlocked board, for the code.
+// Bits 5 and 6, beside CLOSED alone: asks also for an unlocked board, for the code.
 pub const LOCK: u8 = 0x20;
 
 pub const CODE: u8 = 0x40;

@@ -13,7 +13,9 @@ use command::Refusal;
 use entries::FROM_0;
 use entries::KIND_SIZE;
 use entries::OPENED;
+use entries::SPANS;
 use entries::TABLE_SIZE;
+use entries::UNKNOWN;
 
 pub mod entries;
 
@@ -50,7 +52,7 @@ pub fn check_number(entry: u8) -> Numbered
     if entry / OPENED % 4 != 0 {
         return Numbered::AsCommand;
     }
-    if entry == 0 {
+    if entry == UNKNOWN {
         return Numbered::AsUnknown;
     }
     Numbered::AsNotBuilt
@@ -65,7 +67,7 @@ const MOST: usize = 15;
 pub fn check_count(entry: u8, n: usize) -> Counted
     ensures { λ r. ⌜ r ≡ countedIn (spanIn entry) n ⌝ }
 {
-    let span = (entry % 8) as usize;
+    let span = (entry % SPANS) as usize;
     if span < FROM {
         if n == span {
             return Counted::Right;
@@ -102,6 +104,7 @@ fn bt121_command(number: u8) -> Command
         0xF0 => Command::ReadInput,
         0xF1 => Command::SwitchOutput,
         0xF2 => Command::SetInterval,
+        // F3
         _ => Command::ReadInterval,
     }
 }
@@ -119,6 +122,7 @@ fn amplifier_command(number: u8) -> Command
         0x24 => Command::StartSending,
         0x51 => Command::ReadFilter,
         0x52 => Command::SetFilter,
+        // 53
         _ => Command::ReadPair,
     }
 }
