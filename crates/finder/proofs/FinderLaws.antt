@@ -43,8 +43,13 @@ noise-sixteen l from at a b p h ea eb t =
     let m : at + 16 ≡ at + 8 + 8 = omega arith in
     rw m (noise-quiet 8 l from (at + 8) (noise-quiet 8 l from at p (omega arith) (sym ea ∙ w .0)) (omega arith) (sym eb ∙ w .1))
 
-pub reached : (l : List ℕ) (from until at : ℕ) → Reaches l from until at → (at ≡ until → ⊥) → getD l at 0 ≡ 0xAA
-reached l from until at r h = ⊎-elim (λ e. absurd (h e)) (λ e. e) (r .stops)
+-- a search that begins at another byte than AA goes on
+pub reaches-on : (l : List ℕ) (from until at : ℕ) → Reaches l from until at → from < until → (getD l from 0 ≡ 0xAA → ⊥) → from < at
+reaches-on l from until at r h n =
+    ⊎-elim (λ q. q)
+    (λ q.
+    let e : at ≡ from = omega (arith, r .noise .after) in
+    ⊎-elim (λ w. absurd (omega arith)) (λ w. absurd (n (ap (λ (i : ℕ). getD l i 0) (sym e) ∙ w))) (r .stops)) (before-or-not from at)
 
 -- ---- at a place
 
@@ -58,39 +63,39 @@ module _ (k : Line) (l : List ℕ) (at : ℕ) where
     first : getD (drop at l) 0 0 ≡ 0xAA
     first = getD-drop at l 0 0 ∙ rw add-zero aa
 
-    pub look-alone : length l - at < 2 → look (headsOf k) (drop at l) ≡ Wait
+    pub look-alone : length l ≤ at + 1 → look (headsOf k) (drop at l) ≡ Wait
     look-alone h = rw (heads-of k) (front-alone (lineHead k) endsIn85 (drop at l) first (rw length-drop (omega arith)))
 
-    module _ (two : 2 ≤ length l - at) where
+    module _ (two : at + 1 < length l) where
       more : 1 < length (drop at l)
       more = rw length-drop (omega arith)
 
       pub look-headless : lineHead k (getD l (at + 1) 0) ≡ NotHead → look (headsOf k) (drop at l) ≡ Skip
       look-headless h = rw (heads-of k) (front-headless (lineHead k) endsIn85 (drop at l) first more (rw (getD-drop at l 1 0) h))
 
--- ---- the scan over a candidate frame
+-- ---- a candidate frame
 
-pub record Candidate (k : Line) (l : List ℕ) (at n place : ℕ) : Type 0 where
+pub record Candidate (k : Line) (l : List ℕ) (at n : ℕ) : Type 0 where
   pub aa : getD l at 0 ≡ 0xAA
-  pub two : 2 ≤ length l - at
+  pub two : at + 1 < length l
   pub head : lineHead k (getD l (at + 1) 0) ≡ Fixed n
-  pub upTo : place ≤ at + 3 + n
 
-module _ (k : Line) (l : List ℕ) (at n place : ℕ) (c : Candidate k l at n place) where
+module _ (k : Line) (l : List ℕ) (at n : ℕ) (c : Candidate k l at n) where
   good : lineHead k (getD (drop at l) 1 0) ≡ Fixed n
   good = rw (getD-drop at l 1 0) (c .head)
 
-  pub scan-waits : length l ≤ place → look (headsOf k) (drop at l) ≡ Wait
+  pub scan-waits : length l ≤ at + 3 + n → look (headsOf k) (drop at l) ≡ Wait
   scan-waits h =
       rw (heads-of k)
-      (front-unfinished (lineHead k) endsIn85 (drop at l) (first k l at (c .aa)) (more k l at (c .aa) (c .two)) n good (rw length-drop (omega (arith, c .upTo, c .two))))
+      (front-unfinished (lineHead k) endsIn85 (drop at l) (first k l at (c .aa)) (more k l at (c .aa) (c .two)) n good (rw length-drop (omega (arith, c .two))))
 
-  module _ (h : place < length l) (e : at + 3 + n ≤ place) where
+  -- its last place
+  module _ (place : ℕ) (e : place ≡ at + 3 + n) (h : at + 3 + n < length l) where
     all : 4 + n ≤ length (drop at l)
     all = rw length-drop (omega arith)
 
     last : getD (drop at l) (3 + n) 0 ≡ getD l place 0
-    last = getD-drop at l (3 + n) 0 ∙ ap (λ (i : ℕ). getD l i 0) (let z : at + (3 + n) ≡ place = omega (arith, c .upTo) in z)
+    last = getD-drop at l (3 + n) 0 ∙ ap (λ (i : ℕ). getD l i 0) (let z : at + (3 + n) ≡ place = omega arith in z)
 
     pub scan-torn : (getD l place 0 ≡ 0x85 → ⊥) → look (headsOf k) (drop at l) ≡ Tear
     scan-torn b =
@@ -101,13 +106,6 @@ module _ (k : Line) (l : List ℕ) (at n place : ℕ) (c : Candidate k l at n pl
     scan-frame b =
         rw (heads-of k)
         (front-frame (lineHead k) endsIn85 (drop at l) (first k l at (c .aa)) (more k l at (c .aa) (c .two)) n good all (closed-is n (drop at l) all ∙ rw last (eq-eqb (getD l place 0) 0x85 b)))
-
--- the scan up to the lesser of the last place and the end of the stream
-pub scan-last : (last end stop place : ℕ) → (stop ≡ last) ⊎ (stop ≡ end) → stop ≤ place → place < end → last ≤ place
-scan-last last end stop place w h e = ⊎-elim (λ q. omega arith) (λ q. absurd (omega arith)) w
-
-pub lesser-least : (at last end stop : ℕ) → at + 2 ≤ last → at + 2 ≤ end → (stop ≡ last) ⊎ (stop ≡ end) → at + 2 ≤ stop
-lesser-least at last end stop a b w = ⊎-elim (λ q. omega arith) (λ q. omega arith) w
 
 -- ---- nothing found
 

@@ -1,5 +1,4 @@
 // The search for the next frame, broken head or waiting candidate in a stream, for the heads of a line.
-ghost use mathlib.Core.Logic.{_⊎_};
 ghost use mathlib.Core.Path.{_≡_};
 ghost use Prim.Native.Nat.{_+_, _≤_, _<_};
 ghost use lib.ListN.{length};
@@ -72,16 +71,6 @@ fn next_aa(s: &[u8], from: usize, until: usize) -> usize
     at
 }
 
-// The lesser of two numbers.
-fn lesser(a: usize, b: usize) -> usize
-    ensures { λ r. ⌜ (r ≤ a) × (r ≤ b) × ((r ≡ a) ⊎ (r ≡ b)) ⌝ }
-{
-    if a < b {
-        return a;
-    }
-    b
-}
-
 // Passes over bytes to skip, up to the next piece: a frame, a broken head, a candidate that waits, or `until`.
 pub fn find(line: Line, s: &[u8], from: usize, until: usize) -> Found
     requires { ⌜ (from ≤ until) × (until ≤ length (now s)) × (length (now s) ≤ streamMost) ⌝ }
@@ -90,27 +79,27 @@ pub fn find(line: Line, s: &[u8], from: usize, until: usize) -> Found
     let mut at = from;
     let mut seen = Seen::NoMore;
     'hunt: while at < until {
-        at = next_aa(s, at, until);
-        if at == until {
+        if s[at] != 0xAA {
+            at = next_aa(s, at, until);
+            continue 'hunt;
+        }
+        let next = at + 1;
+        if s.len() <= next {
             break 'hunt;
         }
-        if s.len() - at < 2 {
-            break 'hunt;
-        }
-        let Announced::Params(n) = announced_by(line, s[at + 1]) else {
+        let Announced::Params(n) = announced_by(line, s[next]) else {
             at += 1;
             continue 'hunt;
         };
         let last = at + 3 + n;
-        let stop = lesser(last, s.len());
+        if s.len() <= last {
+            break 'hunt;
+        }
         let mut place = at + 2;
         loop {
-            if place < stop {
+            if place != last {
                 place += 1;
                 continue;
-            }
-            if s.len() <= place {
-                break 'hunt;
             }
             if s[place] != 0x85 {
                 seen = Seen::Torn;

@@ -8,7 +8,7 @@ use Rattle.wire.specs.Heads.{announcedOf}
 use Rattle.wire.specs.declared.Announced.the-variants.{Params}
 use Rattle.finder.specs.declared.Seen.the-variants.{NoMore}
 use Rattle.wire.proofs.HeadLaws.{params-head, none-head, params-few}
-use Rattle.finder.proofs.FinderLaws.{passed-noise, reached, look-alone, look-headless, Candidate, scan-waits, scan-torn, scan-frame, scan-last, lesser-least, finds-end, finds-waiting}
+use Rattle.finder.proofs.FinderLaws.{passed-noise, reaches-on, look-alone, look-headless, Candidate, scan-waits, scan-torn, scan-frame, finds-end, finds-waiting}
 use borrow.Author.Needs.{needs}
 use lib.ListN.{length, getD}
 use Prim.Native.Nat.{ℕ, _+_, _-_, _≤_, _<_}
@@ -18,10 +18,10 @@ use Rattle.finder.proofs.find.Statement.{statement}
 use Rattle.finder.proofs.find.Tie as tie
 
 abbrev Inv-loop : tie.InvT-loop
-Inv-loop s from until at seen₀ n last stop place₀ seen place = (place ≤ last) × (place ≤ stop) × (seen ≡ seen₀)
+Inv-loop s from until at next n last place₀ place = place ≤ last
 
 abbrev μ-loop : tie.MeasureT-loop
-μ-loop s from until at seen₀ n last stop place₀ seen place = length s - place
+μ-loop s from until at next n last place₀ place = last - place
 
 abbrev Inv-hunt : tie.InvT-hunt
 Inv-hunt line s from until at₀ seen₀ at seen = Passed (headsOf line) s from at × (at ≤ until) × (seen ≡ NoMore)
@@ -29,41 +29,63 @@ Inv-hunt line s from until at₀ seen₀ at seen = Passed (headsOf line) s from 
 abbrev μ-hunt : tie.MeasureT-hunt
 μ-hunt line s from until at₀ seen₀ at seen = until - at
 
--- where the next AA stands: what was passed, and the candidate that begins there
-module _ (f : tie.After-next-aa Inv-loop μ-loop Inv-hunt μ-hunt) where
-  abbrev here : ℕ
-  here = f .next-aa .result
-
+-- at an AA: what was passed, and the candidate that begins there
+module _ (f : tie.Else1 Inv-loop μ-loop Inv-hunt μ-hunt) where
   abbrev line : Line
-  line = f .before .before .before .before .args .line
+  line = f .before .before .before .before .before .args .line
 
   abbrev stream : List ℕ
-  stream = f .before .before .before .before .args .s .now
+  stream = f .before .before .before .before .before .args .s .now
 
-  passed-here : Passed (headsOf line) stream (f .before .before .before .before .args .from) here
-  passed-here = passed-noise line stream here (f .before .before .before .before .args .from) (f .before .before .hunt .at) (f .before .before .hunt .inv .0) (f .next-aa .ensures .noise)
+  abbrev here : ℕ
+  here = f .before .before .before .hunt .at
 
-  module _ (more : here ≡ f .before .before .before .before .args .until → ⊥) where
-    before-end : here < f .before .before .before .before .args .until
-    before-end = omega (arith, f .next-aa .ensures .upTo, more)
+  passed-here : Passed (headsOf line) stream (f .before .before .before .before .before .args .from) here
+  passed-here = f .before .before .before .hunt .inv .0
 
-    aa-here : getD stream here 0 ≡ 0xAA
-    aa-here = reached stream (f .before .before .hunt .at) (f .before .before .before .before .args .until) here (f .next-aa .ensures) more
+  before-end : here < f .before .before .before .before .before .args .until
+  before-end = f .before .before .hunt-test .taken
 
-    candidate : (n place : ℕ) → 2 ≤ length stream - here → announcedOf line (getD stream (here + 1) 0) ≡ Params n → place ≤ here + 3 + n → Candidate line stream here n place
-    candidate n place two e upTo = record { aa = aa-here; two = two; head = params-head _ n e; upTo = upTo }
+  candidate : (n : ℕ) → here + 1 < length stream → announcedOf line (getD stream (here + 1) 0) ≡ Params n → Candidate line stream here n
+  candidate n two e = record { aa = f .if1 .left; two = two; head = params-head _ n e }
+
+-- behind its head: the parameters that it announces
+module _ (k : tie.After-known-told Inv-loop μ-loop Inv-hunt μ-hunt) where
+  abbrev at-aa : tie.Else1 Inv-loop μ-loop Inv-hunt μ-hunt
+  at-aa = k .before .before .before .before .before .before
+
+  abbrev count : ℕ
+  count = k .before .n .given .0 .0
+
+  announced : announcedOf (line at-aa) (getD (stream at-aa) (here at-aa + 1) 0) ≡ Params count
+  announced = sym (k .before .before .before .announced-by .ensures) ∙ k .before .n .given .1
+
+  candidate-here : Candidate (line at-aa) (stream at-aa) (here at-aa) count
+  candidate-here = candidate at-aa count (k .before .before .before .before .before .if2 .left) announced
 
 hunt-holds : tie.Need-hunt-holds Inv-loop μ-loop Inv-hunt μ-hunt
 hunt-holds c = (stretch-none _ _ _ (omega arith), omega arith, refl)
 
+shared-slice-read-if1 : tie.Need-shared-slice-read-if1 Inv-loop μ-loop Inv-hunt μ-hunt
+shared-slice-read-if1 c = omega arith
+
 next-aa-requires : tie.Need-next-aa-requires Inv-loop μ-loop Inv-hunt μ-hunt
-next-aa-requires c κs = (c .hunt-test .taken, c .before .before .before .pre .1)
+next-aa-requires c κs = omega arith
 
-sub-if2 : tie.Need-sub-if2 Inv-loop μ-loop Inv-hunt μ-hunt
-sub-if2 c = omega arith
+hunt-less : tie.Need-hunt-less Inv-loop μ-loop Inv-hunt μ-hunt
+hunt-less c =
+    let l = c .before .before .before .before in
+    let z = l .before .before .args in
+    omega (arith, c .next-aa .ensures .upTo, reaches-on (z .s .now) (l .hunt .at) (z .until) (c .next-aa .result) (c .next-aa .ensures) (c .before .before .before .hunt-test .taken) (c .before .if1 .taken))
 
-add-announced-by : tie.Need-add-announced-by Inv-loop μ-loop Inv-hunt μ-hunt
-add-announced-by c = omega arith
+hunt-again : tie.Need-hunt-again Inv-loop μ-loop Inv-hunt μ-hunt
+hunt-again c =
+    let l = c .before .before .before .before in
+    let z = l .before .before .args in
+    (passed-noise (z .line) (z .s .now) (c .next-aa .result) (z .from) (l .hunt .at) (l .hunt .inv .0) (c .next-aa .ensures .noise), c .next-aa .ensures .upTo, l .hunt .inv .2)
+
+add-next : tie.Need-add-next Inv-loop μ-loop Inv-hunt μ-hunt
+add-next c = omega arith
 
 shared-slice-read-announced-by : tie.Need-shared-slice-read-announced-by Inv-loop μ-loop Inv-hunt μ-hunt
 shared-slice-read-announced-by c = omega arith
@@ -80,33 +102,26 @@ enum-told c = search needs
 add-at : tie.Need-add-at Inv-loop μ-loop Inv-hunt μ-hunt
 add-at c = omega arith
 
-hunt-less : tie.Need-hunt-less Inv-loop μ-loop Inv-hunt μ-hunt
-hunt-less c = omega arith
+hunt-less-2 : tie.Need-hunt-less-2 Inv-loop μ-loop Inv-hunt μ-hunt
+hunt-less-2 c = omega (arith, before-end (c .before .before .before .before .before))
 
-hunt-again : tie.Need-hunt-again Inv-loop μ-loop Inv-hunt μ-hunt
-hunt-again c =
-    let f = c .before .before .before .before .before .before in
-    let more = c .before .before .before .before .before .if1 .left in
-    let two : 2 ≤ length (stream f) - here f = omega (arith, c .before .before .before .before .if2 .left) in
+hunt-again-2 : tie.Need-hunt-again-2 Inv-loop μ-loop Inv-hunt μ-hunt
+hunt-again-2 c =
+    let f = c .before .before .before .before .before in
     let none = none-head _ (sym (c .before .before .announced-by .ensures) ∙ c .enum-told .given .1) in
-    (stretch-one _ _ _ _ (passed-here f) (omega arith) (look-headless (line f) (stream f) (here f) (aa-here f more) two none), omega (arith, before-end f more), f .before .before .hunt .inv .2)
+    (stretch-one _ _ _ _ (passed-here f) (omega arith) (look-headless (line f) (stream f) (here f) (f .if1 .left) (c .before .before .before .before .if2 .left) none), omega (arith, before-end f), f .before .before .before .hunt .inv .2)
 
 add-last : tie.Need-add-last Inv-loop μ-loop Inv-hunt μ-hunt
 add-last c = omega arith
 
 add-last-2 : tie.Need-add-last-2 Inv-loop μ-loop Inv-hunt μ-hunt
-add-last-2 c =
-    let f = c .before .before .before .before .before .before .before in
-    omega (arith, params-few (line f) (getD (stream f) (here f + 1) 0) (c .before .n .given .0 .0) (sym (c .before .before .before .announced-by .ensures) ∙ c .before .n .given .1))
-
-lesser-requires : tie.Need-lesser-requires Inv-loop μ-loop Inv-hunt μ-hunt
-lesser-requires c κs = search needs
+add-last-2 c = omega (arith, params-few (line (at-aa c)) (getD (stream (at-aa c)) (here (at-aa c) + 1) 0) (count c) (announced c))
 
 add-place : tie.Need-add-place Inv-loop μ-loop Inv-hunt μ-hunt
 add-place c = omega arith
 
 loop-holds : tie.Need-loop-holds Inv-loop μ-loop Inv-hunt μ-hunt
-loop-holds c = (omega arith, lesser-least (here (c .before .before .before .before .before .before .before .before)) _ _ _ (omega arith) (omega (arith, c .before .before .before .before .before .before .if2 .left)) (c .lesser .ensures .2), refl)
+loop-holds c = omega arith
 
 add-place-2 : tie.Need-add-place-2 Inv-loop μ-loop Inv-hunt μ-hunt
 add-place-2 c = omega arith
@@ -115,7 +130,7 @@ loop-less : tie.Need-loop-less Inv-loop μ-loop Inv-hunt μ-hunt
 loop-less c = omega arith
 
 loop-again : tie.Need-loop-again Inv-loop μ-loop Inv-hunt μ-hunt
-loop-again c = (omega (arith, c .if3 .taken, c .before .before .lesser .ensures .0), omega (arith, c .if3 .taken), c .before .loop .inv .2)
+loop-again c = omega arith
 
 shared-slice-read-if5 : tie.Need-shared-slice-read-if5 Inv-loop μ-loop Inv-hunt μ-hunt
 shared-slice-read-if5 c = omega arith
@@ -124,39 +139,29 @@ returns : tie.Need-returns Inv-loop μ-loop Inv-hunt μ-hunt
 returns c = let h = c .before .hunt in finds-end (c .before .before .before .args .line) _ _ _ _ _ (h .inv .2) (h .inv .0) (omega (arith, h .inv .1))
 
 returns-2 : tie.Need-returns-2 Inv-loop μ-loop Inv-hunt μ-hunt
-returns-2 c = finds-end (line (c .before)) _ _ _ _ _ (c .before .before .before .hunt .inv .2) (passed-here (c .before)) (c .if1 .taken)
+returns-2 c =
+    let f = c .before in
+    finds-waiting (line f) _ _ _ _ _ (f .before .before .before .hunt .inv .2) (passed-here f) (before-end f) (look-alone (line f) (stream f) (here f) (f .if1 .left) (c .if2 .taken))
 
 returns-3 : tie.Need-returns-3 Inv-loop μ-loop Inv-hunt μ-hunt
 returns-3 c =
-    let f = c .before .before in
-    let more = c .before .if1 .left in
-    finds-waiting (line f) _ _ _ _ _ (f .before .before .hunt .inv .2) (passed-here f) (before-end f more) (look-alone (line f) (stream f) (here f) (aa-here f more) (c .if2 .taken))
+    let k = c .before in
+    let f = at-aa k in
+    finds-waiting (line f) _ _ _ _ _ (f .before .before .before .hunt .inv .2) (passed-here f) (before-end f) (scan-waits (line f) _ _ _ (candidate-here k) (omega (arith, c .if3 .taken)))
 
 returns-4 : tie.Need-returns-4 Inv-loop μ-loop Inv-hunt μ-hunt
 returns-4 c =
-    let f = c .before .before .before .before .before .before .before .before .before .before .before in
-    let more = c .before .before .before .before .before .before .before .before .before .before .if1 .left in
-    let l = c .before .before .loop in
-    let k = candidate f more _ (l .place) (omega (arith, c .before .before .before .before .before .before .before .before .before .if2 .left)) (sym (c .before .before .before .before .before .before .before .announced-by .ensures) ∙ c .before .before .before .before .before .n .given .1) (l .inv .0) in
-    finds-waiting (line f) _ _ _ _ _ (l .inv .2 ∙ f .before .before .hunt .inv .2) (passed-here f) (before-end f more) (scan-waits (line f) _ _ _ _ k (c .if4 .taken))
+    let e = c .before .before in
+    let k = e .before .before .before in
+    let f = at-aa k in
+    record { passed = passed-here f; stands = (before-end f, scan-torn (line f) _ _ _ (candidate-here k) (e .before .loop .place) (e .if4 .left) (e .before .before .if3 .left) (c .if5 .taken)) }
 
 returns-5 : tie.Need-returns-5 Inv-loop μ-loop Inv-hunt μ-hunt
 returns-5 c =
-    let f = c .before .before .before .before .before .before .before .before .before .before .before .before .before in
-    let more = c .before .before .before .before .before .before .before .before .before .before .before .before .if1 .left in
-    let l = c .before .before .before .before .loop in
-    let k = candidate f more _ (l .place) (omega (arith, c .before .before .before .before .before .before .before .before .before .before .before .if2 .left)) (sym (c .before .before .before .before .before .before .before .before .before .announced-by .ensures) ∙ c .before .before .before .before .before .before .before .n .given .1) (l .inv .0) in
-    let end = scan-last _ _ _ (l .place) (c .before .before .before .before .before .lesser .ensures .2) (c .before .before .before .if3 .left) (c .before .before .if4 .left) in
-    record { passed = passed-here f; stands = (before-end f more, scan-torn (line f) _ _ _ _ k (c .before .before .if4 .left) end (c .if5 .taken)) }
-
-returns-6 : tie.Need-returns-6 Inv-loop μ-loop Inv-hunt μ-hunt
-returns-6 c =
-    let f = c .before .before .before .before .before .before .before .before .before .before .before .before .before in
-    let more = c .before .before .before .before .before .before .before .before .before .before .before .before .if1 .left in
-    let l = c .before .before .before .before .loop in
-    let k = candidate f more _ (l .place) (omega (arith, c .before .before .before .before .before .before .before .before .before .before .before .if2 .left)) (sym (c .before .before .before .before .before .before .before .before .before .announced-by .ensures) ∙ c .before .before .before .before .before .before .before .n .given .1) (l .inv .0) in
-    let end = scan-last _ _ _ (l .place) (c .before .before .before .before .before .lesser .ensures .2) (c .before .before .before .if3 .left) (c .before .before .if4 .left) in
-    record { passed = passed-here f; stands = (before-end f more, scan-frame (line f) _ _ _ _ k (c .before .before .if4 .left) end (c .if5 .left)) }
+    let e = c .before .before in
+    let k = e .before .before .before in
+    let f = at-aa k in
+    record { passed = passed-here f; stands = (before-end f, scan-frame (line f) _ _ _ (candidate-here k) (e .before .loop .place) (e .if4 .left) (e .before .before .if3 .left) (c .if5 .left)) }
 
 pub find-spec : {M : Type 1} → statement M
 find-spec =
@@ -167,19 +172,20 @@ find-spec =
     Inv-hunt
     μ-hunt
     hunt-holds
+    shared-slice-read-if1
     next-aa-requires
-    sub-if2
-    add-announced-by
+    hunt-less
+    hunt-again
+    add-next
     shared-slice-read-announced-by
     announced-by-requires
     enum-known-n
     enum-told
     add-at
-    hunt-less
-    hunt-again
+    hunt-less-2
+    hunt-again-2
     add-last
     add-last-2
-    lesser-requires
     add-place
     loop-holds
     add-place-2
@@ -190,5 +196,4 @@ find-spec =
     returns-2
     returns-3
     returns-4
-    returns-5
-    returns-6)
+    returns-5)
