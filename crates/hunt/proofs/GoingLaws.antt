@@ -2,6 +2,7 @@
 use Prim.Native.Nat.{ℕ, _+_, _-_, _≤_}
 use mathlib.Core.Path.{_≡_, subst}
 use mathlib.Core.List.{List}
+use native.Mathlib.Omega.{arith}
 use lib.ListN.{length, take, drop}
 use mathlib.Core.Bool.{true}
 use Rattle.wire.specs.Sizes.{frameMost}
@@ -59,3 +60,21 @@ module _ (heads : Heads) (l before : List ℕ) (start : ℕ) where
         -- what `carry` asks of a frame
         pub going-frame : Huntable heads → Bytes l → (4 ≤ length (take (at + 4 + n - at) (drop at l))) × (isHead (headOf (take (at + 4 + n - at) (drop at l))) ≡ true)
         going-frame ok b = rw (found-part heads l at n e) (fair-whole heads l b at n e .0, taken-headed heads ok (drop at l) n e)
+
+-- with the bytes of frames counted, so that all others up to the place are skipped
+module _ (heads : Heads) (l before : List ℕ) (start : ℕ) (r : Record) (at framed wrote : ℕ) (kept out : List ℕ) (few : framed ≤ at) (g : Going heads r l before start at (at - framed) wrote kept out) where
+  pub framed-pass : (to : ℕ) → Passed heads l at to → Going heads r l before start to (to - framed) wrote kept out
+  framed-pass to p =
+      let e : at - framed + (to - at) ≡ to - framed = omega (arith, p .after) in
+      subst (λ (k : ℕ). Going heads r l before start to k wrote kept out) e (going-pass heads l before start r at (at - framed) wrote kept out g to p)
+
+  pub framed-tear : look heads (drop at l) ≡ Tear → Going heads r l before start (at + 1) (at + 1 - framed) wrote kept out
+  framed-tear t =
+      let e : at - framed + 1 ≡ at + 1 - framed = omega arith in
+      subst (λ (k : ℕ). Going heads r l before start (at + 1) k wrote kept out) e (going-tear heads l before start r at (at - framed) wrote kept out g t)
+
+  pub framed-carried : start + roomFor (length l) ≤ length before → (n : ℕ) → look heads (drop at l) ≡ Take n → (end : ℕ) (kept′ out′ : List ℕ)
+      → Carries (recordOf kept) (take (at + 4 + n - at) (drop at l)) out wrote end kept′ out′ → Going heads r l before start (at + 4 + n) (at + 4 + n - (framed + 4 + n)) end kept′ out′
+  framed-carried room n t end kept′ out′ c =
+      let e : at - framed ≡ at + 4 + n - (framed + 4 + n) = omega arith in
+      subst (λ (k : ℕ). Going heads r l before start (at + 4 + n) k end kept′ out′) e (going-carried heads l before start r at (at - framed) wrote kept out g room n t end kept′ out′ c)

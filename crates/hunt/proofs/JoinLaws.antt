@@ -7,7 +7,7 @@ use lib.ListN.{length, getD, take, drop, length-append, length-drop}
 use lib.Seq.{take-at, take-all, length-take-le, take-take}
 use Rattle.wire.specs.Sizes.{frameMost, waitMost, joinMost}
 use Rattle.command.specs.Hunt.{roomFor}
-use Rattle.wire.specs.Numbers.{put}
+use Rattle.wire.specs.Numbers.{bytesAt, put}
 use Rattle.wire.specs.Frames.{Heads}
 use Rattle.wire.specs.Replies.{Reply}
 use Rattle.wire.proofs.NumberLaws.{part-is, drop-take}
@@ -89,12 +89,23 @@ module _ (s : List ℕ) (sound : Sound s) where
   pub held-fits : getD s atPendingLength 0 ≤ pendingRoom
   held-fits = omega (arith, held-few)
 
-  pub held-inside : atPending + getD s atPendingLength 0 ≤ length s
-  held-inside = omega (arith, held-few, holds-long r s sound)
+  -- with their number handed on
+  module _ (held : ℕ) (is : held ≡ length (r .pending)) where
+    read-is : held ≡ getD s atPendingLength 0
+    read-is = is ∙ sym held-is
 
-  pub pending-part : take (getD s atPendingLength 0) (drop atPending s) ≡ r .pending
-  unfolding recordOf
-  pending-part = sym (take-take (getD s atPendingLength 0) pendingRoom (drop atPending s) held-fits) ∙ ap (take (getD s atPendingLength 0)) (sym (part-is pendingRoom s atPending (omega (arith, holds-long r s sound))))
+    pub number-few : held ≤ waitMost
+    number-few = omega (arith, read-is, held-few)
+
+    pub number-inside : atPending + held ≤ length s
+    number-inside = omega (arith, number-few, holds-long r s sound)
+
+    pub pending-part : take held (drop atPending s) ≡ r .pending
+    unfolding recordOf
+    pending-part =
+        sym (take-take held pendingRoom (drop atPending s) (omega (arith, number-few)))
+        ∙ ap (take held) (sym (part-is pendingRoom s atPending (omega (arith, holds-long r s sound))))
+        ∙ ap (λ (n : ℕ). take n (bytesAt pendingRoom s atPending)) read-is
 
 -- ---- the joined head of the pending bytes p and the input
 

@@ -1,7 +1,7 @@
 -- A bytes call that passed its checks, for any set of heads: first the candidates that start in the pending bytes, then the input itself.
 use Prim.Native.Nat.{ℕ, _+_, _-_, _≤_, _<_}
 use mathlib.Core.Path.{_≡_, refl, sym, ap, _∙_, subst}
-use mathlib.Core.List.{List, _++_, append-assoc}
+use mathlib.Core.List.{List, [], _∷_, _++_, append-assoc}
 use mathlib.Core.Logic.{_⊎_, ⊎-elim}
 use native.Mathlib.Nat.{zero-add}
 use native.Mathlib.Omega.{arith}
@@ -52,6 +52,10 @@ halted-short heads ok b g e =
     let w : cut heads g .waiting ≡ g = ap (λ (h : Hunted Record Reply). h .waiting) e in
     subst (λ (x : List ℕ). length x ≤ waitMost) w (waiting-short heads ok g)
 
+pub none-there : (p : List ℕ) → length p ≡ 0 → p ≡ []
+none-there [] e = refl
+none-there (x ∷ p) e = absurd (omega arith)
+
 -- ---- the pending bytes p and as much of the input i as a candidate that starts in them can reach
 
 module _ (p i : List ℕ) (n : ℕ) (n-is : n ≡ length i - (length i - frameMost)) where
@@ -89,6 +93,16 @@ module _ (heads : Heads) (r : Record) (p input before : List ℕ) where
       → hunt heads onPiece r (p ++ input) ≡ record { state = b; said = said; skipped = k; waiting = rest } → kept ≡ bytesOf (withPending b rest)
       → wrote ≡ length (repliesBytes said) → out ≡ put before 0 (repliesBytes said) → ServesFor heads r (p ++ input) before (record { written = wrote; skipped = k }) kept out
   serves-said b said k wrote rest kept out h e w o = record { record-is = rw (h, after-of) e; written-is = rw h w; skipped-is = rw h refl; bytes = rw h o }
+
+  -- no bytes are pending, and the stream is the input
+  pub serves-input : p ≡ [] → (x : Progress) (mid kept out : List ℕ) → Hunts heads r input before (length input) 0 x mid out → Turns mid kept (λ z. withPending z (drop (x .at) input))
+      → ServesFor heads r (p ++ input) before (record { written = x .wrote; skipped = x .skipped }) kept out
+  serves-input none x mid kept out y t =
+      let g = y .going in
+      let halts : hunt heads onPiece (g .board) (drop (x .at) input) ≡ halt (g .board) (drop (x .at) input) = stopped Record Reply heads onPiece (g .board) input (x .at) (length input) (omega arith) (y .stops) in
+      serves-said (g .board) (g .sofar .said) (x .skipped) (x .wrote) (drop (x .at) input) kept out
+      (rw none (along-end Record Reply heads onPiece r input (g .board) (x .at) (x .skipped) (g .sofar .said) (g .sofar .along) halts))
+      (t (g .board) (g .held .fit) (g .held .same)) (g .sofar .wrote-is ∙ zero-add _) (g .sofar .bytes)
 
   module _ (n : ℕ) (n-is : n ≡ length input - (length input - frameMost)) (h : Progress) (kept out : List ℕ)
       (f : Hunts heads r (p ++ take n input) before (length p) 0 h kept out) where

@@ -61,22 +61,20 @@ fn hunt_in(
 {
     let mut at = 0;
     let mut wrote = start;
-    let mut skipped = 0;
+    let mut framed = 0;
     'hunt: while at < until {
         let found = find(line, s, at, until);
-        let to = found.at;
         let seen = found.seen;
-        skipped += to - at;
-        at = to;
+        at = found.at;
         match seen {
             Seen::Frame(n) => {
                 wrote = carry(table, rec, &s[at..at + 4 + n], out, wrote);
                 at = at + 4 + n;
+                framed = framed + 4 + n;
                 continue 'hunt;
             }
             Seen::Torn => {
                 at += 1;
-                skipped += 1;
                 continue 'hunt;
             }
             Seen::NoMore => {
@@ -84,7 +82,12 @@ fn hunt_in(
             }
         }
     }
-    Progress { at, wrote, skipped }
+    // What is skipped is what was passed and is no frame.
+    Progress {
+        at,
+        wrote,
+        skipped: at - framed,
+    }
 }
 
 // What a candidate that starts in the pending bytes can reach of the input.
@@ -129,15 +132,21 @@ fn hunt_rest(
     p
 }
 
-// The whole of a bytes call that passed its checks: first candidates that start in the pending bytes, then the input itself.
-pub fn serve(table: &[u8; TABLE_SIZE], rec: &mut [u8], input: &[u8], out: &mut [u8]) -> Counts
+// With pending bytes: first the candidates that start in them, then the input itself.
+fn serve_held(
+    table: &[u8; TABLE_SIZE],
+    rec: &mut [u8],
+    held: usize,
+    input: &[u8],
+    out: &mut [u8],
+) -> Counts
     requires { ⌜ now table ≡ entries ⌝ }
     requires { ⌜ Sound (now rec) ⌝ }
+    requires { ⌜ held ≡ length (recordOf (now rec) .pending) ⌝ }
     requires { ⌜ length (now input) ≤ inputMost ⌝ }
     requires { ⌜ roomFor (length (recordOf (now rec) .pending) + length (now input)) ≤ length (now out) ⌝ }
     ensures { λ t. ⌜ Serves (recordOf (now (rec .entry))) (now (input .entry)) (now (out .entry)) t (now (rec .exit)) (now (out .exit)) ⌝ }
 {
-    let held = rec[AT_PENDING_LENGTH] as usize;
     let mut head = [0u8; JOIN_MOST];
     let total = join(rec, AT_PENDING, held, input, &mut head);
     let first = hunt_in(Line::Board, table, rec, &head[..total], held, out, 0);
@@ -155,4 +164,23 @@ pub fn serve(table: &[u8; TABLE_SIZE], rec: &mut [u8], input: &[u8], out: &mut [
         written: rest.wrote,
         skipped: first.skipped + rest.skipped,
     }
+}
+
+// The whole of a bytes call that passed its checks. With no pending bytes there is nothing to join.
+pub fn serve(table: &[u8; TABLE_SIZE], rec: &mut [u8], input: &[u8], out: &mut [u8]) -> Counts
+    requires { ⌜ now table ≡ entries ⌝ }
+    requires { ⌜ Sound (now rec) ⌝ }
+    requires { ⌜ length (now input) ≤ inputMost ⌝ }
+    requires { ⌜ roomFor (length (recordOf (now rec) .pending) + length (now input)) ≤ length (now out) ⌝ }
+    ensures { λ t. ⌜ Serves (recordOf (now (rec .entry))) (now (input .entry)) (now (out .entry)) t (now (rec .exit)) (now (out .exit)) ⌝ }
+{
+    let held = rec[AT_PENDING_LENGTH] as usize;
+    if held == 0 {
+        let p = hunt_rest(Line::Board, table, rec, input, out, 0);
+        return Counts {
+            written: p.wrote,
+            skipped: p.skipped,
+        };
+    }
+    serve_held(table, rec, held, input, out)
 }

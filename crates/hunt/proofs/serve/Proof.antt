@@ -1,97 +1,15 @@
--- `serve`: the hunt through the join and the hunt through the input are the hunt through both.
-use Rattle.record.proofs.InPlaceLaws.{here-pending}
+-- `serve`: with no pending bytes the stream is the input; else the hunt begins in them.
 use native.Mathlib.Omega.{arith}
-use Prim.Native.Nat.{ℕ, _+_, _-_, _≤_, _<_}
-use mathlib.Core.Path.{_≡_, refl, sym, subst}
-use mathlib.Core.List.{List}
-use lib.ListN.{length, getD, take, drop}
-use Rattle.wire.specs.Sizes.{frameMost, waitMost}
-use Rattle.command.specs.Hunt.{roomFor}
-use Rattle.record.specs.Layout.{pendingRoom, atPendingLength, recordOf}
-use Rattle.record.specs.InPlace.{Sound}
+use mathlib.Core.Path.{_≡_, sym, _∙_}
+use mathlib.Core.List.{List, []}
+use Rattle.record.specs.Layout.{recordOf}
 use Rattle.record.proofs.InPlaceLaws.{holds-long}
 use Rattle.wire.specs.Serial.{serial}
-use Rattle.wire.proofs.SerialLaws.{serial-huntable}
-use Rattle.hunt.specs.Progress.{Joins}
-use Rattle.hunt.proofs.GoingLaws.{going-sound}
-use Rattle.hunt.proofs.ServeLaws.{serves-board}
-use Rattle.hunt.proofs.JoinLaws.{roomed, held-is, held-few, held-inside, pending-part, total-is, stream-long, first-kept, short-first, serves-first, rest-long, from-inside, rest-fits, serves-second}
+use Rattle.hunt.proofs.ServeLaws.{serves-board, serves-input, none-there}
+use Rattle.hunt.proofs.JoinLaws.{held-is, held-few}
 use borrow.Author.Needs.{needs}
 use Rattle.hunt.proofs.serve.Statement.{statement}
 use Rattle.hunt.proofs.serve.Tie as tie
-
--- the start of the call, from the place behind the join
-abbrev start : tie.After-join → tie.Start
-start j = j .before .before .before .before .before .before .before
-
--- behind the join
-module _ (j : tie.After-join) where
-  abbrev rec₀ : List ℕ
-  rec₀ = start j .args .rec .now
-
-  abbrev input : List ℕ
-  input = start j .args .input .now
-
-  abbrev out₀ : List ℕ
-  out₀ = start j .args .out .now
-
-  abbrev held : ℕ
-  held = getD rec₀ atPendingLength 0
-
-  abbrev head : List ℕ
-  head = j .join .last .1 .1 .1 .1 .0
-
-  abbrev total : ℕ
-  total = j .join .result
-
-  sound : Sound rec₀
-  sound = start j .pre .1 .0
-
-  few : held ≤ waitMost
-  few = held-few rec₀ sound
-
-  abbrev waiting : List ℕ
-  waiting = recordOf rec₀ .pending
-
-  joins : Joins waiting input total head
-  joins = subst (λ (p : List ℕ). Joins p input total head) (pending-part rec₀ sound) (j .join .ensures)
-
-  long : length (take total head) ≡ total
-  long = stream-long waiting input head held total (held-is rec₀ sound) joins
-
-  sum : total ≡ held + (length input - (length input - frameMost))
-  sum = total-is waiting input head held total (held-is rec₀ sound) joins
-
--- behind the hunt through the joined head
-module _ (f : tie.After-hunt-in) where
-  abbrev j : tie.After-join
-  j = f .before .before .before .before .before
-
-  abbrev at : ℕ
-  at = f .hunt-in .result .at
-
-  abbrev rec₁ : List ℕ
-  rec₁ = f .hunt-in .last .1 .1 .0
-
-  abbrev out₁ : List ℕ
-  out₁ = f .hunt-in .last .1 .1 .1 .1 .1 .0
-
-  within : at ≤ total j
-  within = omega (arith, long j, f .hunt-in .ensures .going .sofar .along .within)
-
-  waits-short : at < held j → Sound rec₁ × (length (take (total j - at) (drop at (head j))) ≤ pendingRoom)
-  waits-short a = (
-    first-kept (waiting j) (input j) (head j) (held j) (total j) (held-is (rec₀ j) (sound j)) (joins j) serial (recordOf (rec₀ j)) (out₀ j) (f .hunt-in .result) rec₁ out₁ (f .hunt-in .ensures),
-    short-first (waiting j) (input j) (head j) (held j) (total j) (held-is (rec₀ j) (sound j)) (joins j) serial (recordOf (rec₀ j)) (out₀ j) (f .hunt-in .result) rec₁ out₁ (f .hunt-in .ensures) serial-huntable a,
-  )
-
-  -- the hunt goes on in the input
-  module _ (past : held j ≤ at) where
-    starts : at - held j ≤ length (input j)
-    starts = from-inside (waiting j) (input j) (head j) (held j) (total j) (held-is (rec₀ j) (sound j)) (joins j) serial (recordOf (rec₀ j)) (out₀ j) (f .hunt-in .result) rec₁ out₁ (f .hunt-in .ensures) past (start j .pre .1 .1 .1)
-
-    fits : f .hunt-in .result .wrote + roomFor (length (take (length (input j) - (at - held j)) (drop (at - held j) (input j)))) ≤ length out₁
-    fits = rest-fits (waiting j) (input j) (head j) (held j) (total j) (held-is (rec₀ j) (sound j)) (joins j) serial (recordOf (rec₀ j)) (out₀ j) (f .hunt-in .result) rec₁ out₁ (f .hunt-in .ensures) past (start j .pre .1 .1 .1)
 
 slice-read-held : tie.Need-slice-read-held
 slice-read-held c = omega (arith, holds-long _ _ (c .before .before .before .before .pre .1 .0))
@@ -99,34 +17,18 @@ slice-read-held c = omega (arith, holds-long _ _ (c .before .before .before .bef
 cast-held : tie.Need-cast-held
 cast-held c = let z = c .before .before .before .before in omega (arith, held-few (z .args .rec .now) (z .pre .1 .0))
 
-slice-aggregate-join : tie.Need-slice-aggregate-join
-slice-aggregate-join c = search needs
+-- with no pending bytes
+module _ (t : tie.Then1) where
+  abbrev start : tie.Start
+  start = t .before .before .before .before .before
 
-join-requires : tie.Need-join-requires
-join-requires c κs = let z = c .before .before .before .before .before .before in (held-inside (z .args .rec .now) (z .pre .1 .0), held-few (z .args .rec .now) (z .pre .1 .0), refl)
+  none : recordOf (start .args .rec .now) .pending ≡ []
+  none = none-there _ (sym (held-is (start .args .rec .now) (start .pre .1 .0)) ∙ t .if1 .taken)
 
-array-share-prefix-head : tie.Need-array-share-prefix-head
-array-share-prefix-head c = let j = c .before .before in omega (arith, sum j, few j, j .join .kept)
-
-slice-aggregate-hunt-in : tie.Need-slice-aggregate-hunt-in
-slice-aggregate-hunt-in c = sym (long (c .before .before .before))
-
-hunt-in-requires : tie.Need-hunt-in-requires
-hunt-in-requires c κs =
-    let j = c .before .before .before .before in
-    (start j .pre .0, (sound j, ((omega (arith, long j, sum j), omega (arith, long j, sum j, few j)), omega (arith, long j, sum j, held-is (rec₀ j) (sound j), start j .pre .1 .1 .1))))
-
-sub-set-pending : tie.Need-sub-set-pending
-sub-set-pending c = within (c .before .before .before .before .before .before)
-
-part-set-pending-start : tie.Need-part-set-pending-start
-part-set-pending-start c = within (c .before .before .before .before .before .before .before)
-
-part-set-pending-end : tie.Need-part-set-pending-end
-part-set-pending-end c = let j = c .before .before .before .before .before .before .before .before .before .before .before .before in omega (arith, sum j, few j, j .join .kept)
-
-set-pending-requires : tie.Need-set-pending-requires
-set-pending-requires c κs = roomed _ _ (waits-short (c .before .before .before .before .before .before .before .before) (c .before .before .before .if1 .taken))
+hunt-rest-requires : tie.Need-hunt-rest-requires
+hunt-rest-requires c κs =
+    let z = start (c .before .before) in
+    (z .pre .0, (z .pre .1 .0, (omega (arith, z .pre .1 .1 .0), omega (arith, z .pre .1 .1 .1))))
 
 same-length : tie.Need-same-length
 same-length c = search needs
@@ -136,32 +38,17 @@ same-length-2 c = search needs
 
 returns : tie.Need-returns
 returns c =
-    let f = c .before .before .before .before .before .before .before .before .before .before .before in
-    let j = f .before .before .before .before .before in
-    serves-board (recordOf (rec₀ j)) (input j) (out₀ j) _ _ _ (serves-first (waiting j) (input j) (head j) (held j) (total j) (held-is (rec₀ j) (sound j)) (joins j) serial (recordOf (rec₀ j)) (out₀ j) (f .hunt-in .result) (rec₁ f) (out₁ f) (f .hunt-in .ensures) serial-huntable (c .before .before .before .before .before .before .if1 .taken) _ (here-pending atPendingLength pendingRoom _ _ _ refl refl (c .before .before .set-pending .ensures)))
+    let f = c .before .before .before .before in
+    let t = f .before .before .before in
+    let z = start t .args in
+    let r = recordOf (z .rec .now) in
+    let y = f .hunt-rest .ensures in
+    serves-board r (z .input .now) (z .out .now) _ _ _ (serves-input serial r (r .pending) (z .input .now) (z .out .now) (none t) (f .hunt-rest .result) (y .mid) _ _ (y .hunts) (y .turns))
 
-sub-hunt-rest : tie.Need-sub-hunt-rest
-sub-hunt-rest c = starts (c .before .before .before .before .before .before) (omega (arith, c .before .if1 .left))
-
-part-hunt-rest-start : tie.Need-part-hunt-rest-start
-part-hunt-rest-start c = starts (c .before .before .before .before .before .before) (omega (arith, c .before .if1 .left))
-
-part-hunt-rest-end : tie.Need-part-hunt-rest-end
-part-hunt-rest-end c = search needs
-
-hunt-rest-requires : tie.Need-hunt-rest-requires
-hunt-rest-requires c κs =
-    let f = c .before .before .before .before .before .before .before .before in
-    let j = f .before .before .before .before .before in
-    (start j .pre .0, (going-sound _ _ _ _ _ _ _ _ _ _ (f .hunt-in .ensures .going), (omega (arith, start j .pre .1 .1 .0, rest-long (input j) (at f - held j)), fits f (omega (arith, c .before .before .before .if1 .left)))))
-
-add-t37 : tie.Need-add-t37
-add-t37 c =
-    let f = c .before .before .before .before .before .before .before .before .before .before .before .before .before .before .before in
-    let j = f .before .before .before .before .before in
-    let x = c .before .before .before .before .before .before .hunt-rest .ensures .hunts .going .sofar .along in
-    let y = f .hunt-in .ensures .going .sofar .along in
-    omega (arith, x .few, x .within, y .few, y .within, long j, sum j, few j, start j .pre .1 .1 .0, rest-long (input j) (at f - held j))
+serve-held-requires : tie.Need-serve-held-requires
+serve-held-requires c κs =
+    let z = c .before .before .before .before .before .before .before in
+    (z .pre .0, (z .pre .1 .0, (held-is (z .args .rec .now) (z .pre .1 .0), z .pre .1 .1)))
 
 same-length-3 : tie.Need-same-length-3
 same-length-3 c = search needs
@@ -170,11 +57,7 @@ same-length-4 : tie.Need-same-length-4
 same-length-4 c = search needs
 
 returns-2 : tie.Need-returns-2
-returns-2 c =
-    let f = c .before .before .before .before .before .before .before .before .before .before .before .before .before .before .before in
-    let j = f .before .before .before .before .before in
-    let rest = c .before .before .before .before .before .before .hunt-rest in
-    serves-board (recordOf (rec₀ j)) (input j) (out₀ j) _ _ _ (serves-second (waiting j) (input j) (head j) (held j) (total j) (held-is (rec₀ j) (sound j)) (joins j) serial (recordOf (rec₀ j)) (out₀ j) (f .hunt-in .result) (rec₁ f) (out₁ f) (f .hunt-in .ensures) (omega (arith, c .before .before .before .before .before .before .before .before .before .before .if1 .left)) (start j .pre .1 .1 .1) serial-huntable (rest .result) _ _ (rest .ensures))
+returns-2 c = search needs
 
 pub serve-spec : {M : Type 1} → statement M
 serve-spec =
@@ -182,23 +65,11 @@ serve-spec =
     (tie.spec
     slice-read-held
     cast-held
-    slice-aggregate-join
-    join-requires
-    array-share-prefix-head
-    slice-aggregate-hunt-in
-    hunt-in-requires
-    sub-set-pending
-    part-set-pending-start
-    part-set-pending-end
-    set-pending-requires
+    hunt-rest-requires
     same-length
     same-length-2
     returns
-    sub-hunt-rest
-    part-hunt-rest-start
-    part-hunt-rest-end
-    hunt-rest-requires
-    add-t37
+    serve-held-requires
     same-length-3
     same-length-4
     returns-2)
