@@ -71,8 +71,8 @@ module _ (heads : Heads) (s l before : List ℕ) (start : ℕ) (p : Progress) (m
   rests kept t = record { mid = mid; hunts = h; turns = subst (λ (x : List ℕ). Turns mid kept (λ z. withPending z x)) (part-rest l (p .at)) t }
 
 -- what the store of the pending bytes asks for
-pub roomed : (s : List ℕ) (m : ℕ) → Sound s × (m ≤ pendingRoom) → SoundPending atPendingLength pendingRoom s × (m ≤ pendingRoom)
-roomed s m h = (sound-pending s (h .0), h .1)
+pub roomed : (s : List ℕ) (m : ℕ) → Sound s × (m ≤ pendingRoom) → SoundPending atPendingLength pendingRoom s × ((m ≤ pendingRoom) × ((8 ≤ pendingRoom) × (pendingRoom ≤ 24)))
+roomed s m h = (sound-pending s (h .0), (h .1, (omega arith, omega arith)))
 
 -- ---- the pending bytes in their place
 

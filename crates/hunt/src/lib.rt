@@ -9,7 +9,6 @@ ghost use Rattle.record.specs.InPlace.{Sound};
 ghost use Rattle.command.specs.Entries.{entries};
 ghost use Rattle.command.specs.Hunt.{roomFor};
 ghost use Rattle.hunt.specs.Progress.{Hunts, Rests, Joins, Serves};
-use buffer::write::put_in;
 use carry::carry;
 use finder::Seen;
 use finder::find;
@@ -21,6 +20,7 @@ use table::entries::TABLE_SIZE;
 use wire::Line;
 use wire::sizes::FRAME_MOST;
 use wire::sizes::JOIN_MOST;
+use words::put_few;
 
 // How far a hunt came: the place in its stream, the place in the output, the bytes skipped.
 pub struct Progress {
@@ -106,8 +106,8 @@ fn join(rec: &[u8], at: usize, held: usize, input: &[u8], head: &mut [u8]) -> us
     ensures { λ n. ⌜ Joins (take held (drop at (now (rec .entry)))) (now (input .entry)) n (now (head .exit)) ⌝ }
 {
     let n = reach(input.len());
-    let end = put_in(head, 0, &rec[at..at + held]);
-    put_in(head, end, &input[..n])
+    let end = put_few(head, 0, &rec[at..at + held]);
+    put_few(head, end, &input[..n])
 }
 
 // Hunts through all of a stream; what waits at its end becomes the pending bytes.

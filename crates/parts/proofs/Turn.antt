@@ -1,16 +1,18 @@
 -- A store in the bytes of a record is the change of its field, in the words of the code that stores.
-use Prim.Native.Nat.{ℕ, zero, _+_, _-_, _≤_}
-use mathlib.Core.Path.{_≡_, ap, _∙_}
-use mathlib.Core.List.{List}
+use Prim.Native.Nat.{ℕ, zero, suc, _+_, _-_, _≤_}
+use mathlib.Core.Path.{_≡_, refl, ap, _∙_}
+use mathlib.Core.List.{List, []}
+use native.Mathlib.Nat.{sub-zero, suc-sub-suc}
 use native.Mathlib.Omega.{arith}
-use lib.ListN.{length, take, drop, set, replicate}
+use lib.ListN.{length, take, drop, set, replicate, length-set, length-replicate}
 use lib.Seq.{sets, take-all}
 use Rattle.wire.specs.Numbers.{bytesAt, put}
 use Rattle.wire.specs.Zeros.{beforeZero}
 use Rattle.wire.proofs.NumberLaws.{length-part}
-use Rattle.wire.proofs.PutLaws.{put-put, put-sets}
+use Rattle.wire.proofs.PutLaws.{put-sets}
+use Rattle.words.proofs.WordLaws.{put-within}
 use Rattle.record.specs.Record.{withName, withSettings, withModel, withPending}
-use Rattle.record.specs.Layout.{NamePart, ModelPart, nameRoom, modelRoom, atNameLength}
+use Rattle.record.specs.Layout.{NamePart, ModelPart, nameRoom, modelRoom, atNameLength, atName}
 use Rattle.record.specs.InPlace.{TurnsAt, TurnsPending}
 use Rattle.wire.proofs.ZeroLaws.{padded, cut-take}
 use Rattle.record.proofs.Stores.{set-nameIn, set-modelIn, set-pendingIn}
@@ -32,11 +34,23 @@ module _ (s : List ℕ) where
         let cut : n - 0 ≡ length (beforeZero p) = omega (arith, q, ap (λ (l : List ℕ). length (beforeZero l)) all) in
         rw (e, same, cut, cut-take p, ← (w .stands)) (set-modelIn plan (w .laid) r (beforeZero p))
 
--- a part and then zeros up to the end of its room
-pub put-part : (d : List ℕ) (at end : ℕ) (p : List ℕ) → at + length p ≤ end → end ≤ length d
-    → put (put d at p) (at + length p) (replicate (end - (at + length p)) 0) ≡ sets d at (bytesAt (end - at) p 0)
+drop-zeros : (k n : ℕ) → k ≤ n → _≡_ {A = List ℕ} (drop k (replicate n 0)) (replicate (n - k) 0)
+drop-zeros zero n h = rw sub-zero refl
+drop-zeros (suc k) zero h = absurd (omega arith)
+drop-zeros (suc k) (suc n) h = rw suc-sub-suc (drop-zeros k n (omega arith))
+
+-- a room of zeros and then the part in it
+pub put-part : (d : List ℕ) (at end : ℕ) (p : List ℕ) → at + length p ≤ end → end ≤ length d → put (put d at (replicate (end - at) 0)) at p ≡ sets d at (bytesAt (end - at) p 0)
 put-part d at end p h k =
-    let rest : end - (at + length p) ≡ end - at - length p = omega arith in
+    let z : List ℕ = replicate (end - at) 0 in
+    let n : length z ≡ end - at = length-replicate (end - at) 0 in
     let room : at + length (bytesAt (end - at) p 0) ≤ length d = rw (length-part (end - at) p 0) (omega arith) in
-    put-put d at p (replicate (end - (at + length p)) 0) (omega arith)
-    ∙ rw (rest, ← padded (end - at) p (omega arith)) (put-sets d at (bytesAt (end - at) p 0) room)
+    put-within d at z p (omega (arith, n)) (omega (arith, n))
+    ∙ rw (drop-zeros (length p) (end - at) (omega arith), ← padded (end - at) p (omega arith)) (put-sets d at (bytesAt (end - at) p 0) room)
+
+-- a name of no bytes: its number and its room are zeros
+pub turn-no-name : (s t : List ℕ) → atName + nameRoom ≤ length s → t ≡ put (set s atNameLength 0) atName (replicate nameRoom 0) → TurnsAt NamePart atNameLength s t (λ r. withSettings r (withName (r .settings) []))
+turn-no-name s t h e =
+    let k : atName + nameRoom ≤ length (set s atNameLength 0) = simp length-set h in
+    let same : t ≡ sets (set s atNameLength 0) atName (bytesAt nameRoom [] 0) = e ∙ put-sets (set s atNameLength 0) atName (replicate nameRoom 0) k in
+    rw same (turn-name s [])

@@ -1,14 +1,18 @@
--- `put_part`: a part and the zeros behind it are one store.
+-- `put_part`: the zeros of a room and the part over them are one store.
 use Rattle.parts.proofs.Turn.{put-part}
+use Prim.Native.Nat.{ℕ}
+use mathlib.Core.Path.{ap, _∙_}
+use mathlib.Core.List.{List}
+use Rattle.wire.specs.Numbers.{put}
 use borrow.Author.Needs.{needs}
 use Rattle.parts.proofs.put_part.Statement.{statement}
 use Rattle.parts.proofs.put_part.Tie as tie
 
-put-in-requires : tie.Need-put-in-requires
-put-in-requires c κs = search needs
+clear-few-requires : tie.Need-clear-few-requires
+clear-few-requires c κs = search needs
 
-clear-requires : tie.Need-clear-requires
-clear-requires c κs = search needs
+put-few-requires : tie.Need-put-few-requires
+put-few-requires c κs = search needs
 
 same-length : tie.Need-same-length
 same-length c = search needs
@@ -17,7 +21,10 @@ returns : tie.Need-returns
 returns c =
     let q = c .before .before .before .before .before .before in
     let z = q .before .before .before .before in
-    rw (c .before .before .clear .ensures, q .put-in .ensures .1, q .put-in .ensures .0) (put-part (z .args .rec .now) (z .args .at) (z .args .end) (z .args .p .now) (z .pre .0) (z .pre .1))
+    let p = z .args .p .now in
+    c .before .before .put-few .ensures .1
+    ∙ ap (λ (l : List ℕ). put l (z .args .at) p) (q .clear-few .ensures)
+    ∙ put-part (z .args .rec .now) (z .args .at) (z .args .end) p (z .pre .0 .0) (z .pre .0 .1)
 
 pub put-part-spec : {M : Type 1} → statement M
-put-part-spec = tie.close (tie.spec put-in-requires clear-requires same-length returns)
+put-part-spec = tie.close (tie.spec clear-few-requires put-few-requires same-length returns)
