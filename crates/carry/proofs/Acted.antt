@@ -1,6 +1,6 @@
 -- One command judged and carried out, and a whole frame answered, from what their parts promise.
 use Prim.Native.Nat.{ℕ, _+_, _-_, _≤_}
-use mathlib.Core.Path.{_≡_, refl, sym, ap, _∙_}
+use mathlib.Core.Path.{_≡_, refl, sym, ap, subst⁻¹, _∙_}
 use mathlib.Core.List.{List, []}
 use native.Mathlib.Omega.{arith}
 use lib.ListN.{length, getD, take, drop}
@@ -8,64 +8,163 @@ use Rattle.wire.specs.Sizes.{dataMost, frameMost}
 use Rattle.wire.specs.Numbers.{Bytes, put}
 use Rattle.wire.specs.Serial.{headOf, numberOf, paramsOf}
 use Rattle.wire.specs.Replies.{Reply, kindOf, replyBytes, around}
-use Rattle.wire.specs.declared.Range.the-variants.{Fits}
+use Rattle.wire.specs.declared.Range.{Range}
+use Rattle.wire.specs.declared.Range.the-variants.{Fits, Big, Small}
 use Rattle.wire.proofs.PutLaws.{put-nil}
 use Rattle.wire.proofs.ReplyLaws.{length-reply, closed-reply}
 use Rattle.record.specs.Record.{Record}
 use Rattle.record.specs.Layout.{bytesOf, recordOf}
 use Rattle.record.specs.InPlace.{Holds, Sound, Turns, Shows}
-use Rattle.record.proofs.InPlaceLaws.{holds-is, turn-holds}
+use Rattle.record.proofs.InPlaceLaws.{turn-holds}
 use Rattle.record.proofs.Lens.{get-tries}
-use Rattle.command.specs.Tables.{countedOf, needOf, rangeOf}
+use Rattle.command.specs.Tables.{listedOf, spanOf, countedIn, countedOf, needOf, rangeOf, namedBy}
+use Rattle.command.specs.Entries.{saidBy, rowsSay, unpacked}
 use Rattle.command.specs.Effects.{effectOf, dataOf}
-use Rattle.command.specs.Judge.{statusOf, verdictOf}
-use Rattle.command.specs.Step.{leftBy, Step, stepBy, stepOf}
+use Rattle.command.specs.Judge.{statusOf, accessOf, byCount, byAccess, byRange, judged, verdictOf}
+use Rattle.command.specs.Step.{leftBy, settled, Step, stepBy, stepOf}
 use Rattle.command.specs.declared.Command.{Command}
-use Rattle.command.specs.declared.Counted.the-variants.{Right}
+use Rattle.command.specs.declared.Listed.{Listed}
+use Rattle.command.specs.declared.Listed.the-variants.{Built, NotBuilt, Unlisted}
+use Rattle.command.specs.declared.Counted.{Counted}
+use Rattle.command.specs.declared.Counted.the-variants.{Right, Wrong}
+use Rattle.command.specs.declared.Access.{Access}
+use Rattle.command.specs.declared.Access.the-variants.{Given, Missing, WrongCode}
 use Rattle.command.specs.declared.Refusal.{Refusal}
-use Rattle.command.specs.declared.Refusal.the-variants.{BadCode}
+use Rattle.command.specs.declared.Refusal.the-variants.{Unknown, Unbuilt, Miscounted, NoAccess, BadCode, TooBig, TooSmall}
 use Rattle.command.specs.declared.Verdict.{Verdict}
 use Rattle.command.specs.declared.Verdict.the-variants.{Do, Refuse}
-use Rattle.command.proofs.Refused.{Checks, checks, by-is, step-by, step-is, passed}
+use Rattle.command.specs.declared.Judged.{Judged}
+use Rattle.command.specs.declared.Judged.the-variants.{Passed, Refused}
+use Rattle.command.proofs.EntryLaws.{apart}
+use Rattle.command.proofs.Named.{named-is}
+use Rattle.command.proofs.Refused.{verdict-is, Checks, checks, verdict, by-is, step-by, step-is}
 use Rattle.command.proofs.Keep.{by-in, wrong-code}
+use Rattle.judge.specs.Checks.{judgedCount, judgedAccess, judgedBy}
 use Rattle.data.specs.PutsData.{PutsData}
-use Rattle.data.proofs.Data.{data-after}
-use Rattle.effect.specs.Countable.{Countable}
-use Rattle.carry.specs.Carry.{Acts, Carries}
+use Rattle.effect.specs.declared.Done.the-variants.{Told, Missed}
+use Rattle.effect.specs.Done.{Calls, Carried}
+use Rattle.carry.specs.declared.Said.{Said}
+use Rattle.carry.specs.declared.Said.the-variants.{Answered, Denied}
+use Rattle.carry.specs.Carry.{Countable, statusIn, countIn, Acts, Carries}
 
--- a wrong code is found only while a try is left
-pub countable : (s : List ℕ) (r : Record) (head number : ℕ) (p : List ℕ) (why : Refusal) → s ≡ bytesOf r → verdictOf r head number p ≡ Refuse why → Countable why s
-countable s r head number p why e v told =
-    let h : Checks r head number p (Refuse BadCode) = rw (v, told) at (checks r head number p) in
-    rw (e, get-tries r) (wrong-code (needOf (h .0)) r p (h .3) .1)
+-- a refusal that is no wrong code leaves no trace
+pub left-none : (why : Refusal) → (why ≡ BadCode → ⊥) → (r : Record) → leftBy why r ≡ r
+unfolding leftBy
+left-none Unknown h r = refl
+left-none Unbuilt h r = refl
+left-none Miscounted h r = refl
+left-none NoAccess h r = refl
+left-none BadCode h r = absurd (h refl)
+left-none TooBig h r = refl
+left-none TooSmall h r = refl
 
-module _ (s : List ℕ) (head number : ℕ) (p : List ℕ) (sound : Sound s) where
+pub left-as : (why k : Refusal) → why ≡ k → (s t : List ℕ) → Turns s t (λ r. leftBy k r) → Turns s t (λ r. leftBy why r)
+left-as why k told s t g = subst⁻¹ (λ (x : Refusal). Turns s t (λ r. leftBy x r)) told g
+
+-- ---- what the checks by an entry mean for the verdict
+
+count-refused : (x : Counted) (y : Access) (v : Verdict) (why : Refusal) → judgedCount x (judgedAccess y) ≡ Refused why → byCount x (byAccess y v) ≡ Refuse why
+count-refused Wrong y v why h = cc
+count-refused Right Missing v why h = cc
+count-refused Right WrongCode v why h = cc
+count-refused Right Given v why h = apart cc
+
+count-passed : (x : Counted) (y : Access) → judgedCount x (judgedAccess y) ≡ Passed → (x ≡ Right) × (y ≡ Given)
+count-passed Wrong y h = apart cc
+count-passed Right Missing h = apart cc
+count-passed Right WrongCode h = apart cc
+count-passed Right Given h = (refl, refl)
+
+module _ (r : Record) (head number : ℕ) (p : List ℕ) where
+  -- a command that passed the checks of its entry
+  abbrev pub Passes : Type 0
+  Passes = (c : Command) × (listedOf head number ≡ Built c) × (countedOf c (length p) ≡ Right) × (accessOf (needOf c) r p ≡ Given)
+
+  passes-by : (x : Listed) → listedOf head number ≡ x → judgedBy (saidBy x) r p ≡ Passed → Passes
+  unfolding judgedBy countedOf
+  passes-by (Built c) e h = let w = count-passed (countedIn (spanOf c) (length p)) (accessOf (needOf c) r p) h in (c, e, w .0, w .1)
+  passes-by NotBuilt e h = apart cc
+  passes-by Unlisted e h = apart cc
+
+  refuses-by : (x : Listed) → listedOf head number ≡ x → (why : Refusal) → judgedBy (saidBy x) r p ≡ Refused why → verdictOf r head number p ≡ Refuse why
+  unfolding judgedBy countedOf
+  refuses-by (Built c) e why h = rw (verdict-is r head number p, e) (count-refused (countedIn (spanOf c) (length p)) (accessOf (needOf c) r p) (byRange (rangeOf c p) (Do c)) why h)
+  refuses-by NotBuilt e why h = rw (verdict-is r head number p, e) (let q : Unbuilt ≡ why = cc in ap Refuse q)
+  refuses-by Unlisted e why h = rw (verdict-is r head number p, e) (let q : Unknown ≡ why = cc in ap Refuse q)
+
+  module _ (entry : ℕ) (says : unpacked entry ≡ rowsSay head number) where
+    pub passes : judgedBy (unpacked entry) r p ≡ Passed → Passes
+    passes h = passes-by (listedOf head number) refl (rw says at h)
+
+    pub refuses : (why : Refusal) → judgedBy (unpacked entry) r p ≡ Refused why → verdictOf r head number p ≡ Refuse why
+    refuses why h = refuses-by (listedOf head number) refl why (rw says at h)
+
+  -- which number alone calls
+  pub calls : Passes → Calls number (length p)
+  calls w = (w .0, named-is head number (w .0) (w .1), w .2)
+
+  pub ranged : (w : Passes) (x : Range) → rangeOf (w .0) p ≡ x → verdictOf r head number p ≡ byRange x (Do (w .0))
+  ranged w x e = rw (verdict-is r head number p, w .1, w .2, w .3, e) refl
+
+-- ---- what a command leaves
+
+module _ (s : List ℕ) (sound : Sound s) (head number : ℕ) (p : List ℕ) where
   abbrev r : Record
   r = recordOf s
 
-  module _ (v : Verdict) (shows : Shows s v (λ b. verdictOf b head number p)) where
-    judged : v ≡ verdictOf r head number p
-    judged = shows r (sound .fit) (sound .same)
+  step-of : (v : Verdict) → verdictOf r head number p ≡ v → stepBy r head number p ≡ settled r head p v
+  step-of v e = by-is r head number p ∙ ap (settled r head p) e
 
-    module _ (c : Command) (e : v ≡ Do c) where
-      pub may-do : (countedOf c (length p) ≡ Right) × (rangeOf c p ≡ Fits)
-      may-do = let w = passed r head number p c (sym judged ∙ e) in (w .1, w .3)
+  -- a wrong code is found only while a try is left
+  pub countable : (why : Refusal) → verdictOf r head number p ≡ Refuse why → Countable why s
+  countable why v told =
+      let h : Checks r head number p (Refuse BadCode) = rw (v, told) at (checks r head number p) in
+      rw (sound .same, get-tries r) (wrong-code (needOf (h .0)) r p (h .3) .1)
 
-      pub acts-do : Bytes p → (t : List ℕ) → Turns s t (λ b. effectOf c b p) → Acts r head number p (Do c) t
-      acts-do b t g =
-          let q : verdictOf r head number p ≡ Do c = sym judged ∙ e in
-          let a : stepBy r head number p .after ≡ effectOf c r p = ap (λ (x : Step). x .after) (by-is r head number p) ∙ rw q refl in
-          record { verdict = sym q; held = rw a (turn-holds r s sound t (λ b. effectOf c b p) g (rw (← a) (by-in r head number p b (sound .fit)))) }
+  module _ (b : Bytes p) (before : List ℕ) (at : ℕ) where
+    -- the record after f, which is what the step leaves
+    held-by : (f : Record → Record) → stepBy r head number p .after ≡ f r → (t : List ℕ) → Turns s t f → Holds (stepBy r head number p .after) t
+    held-by f a t g = rw a (turn-holds r s sound t f g (rw (← a) (by-in r head number p b (sound .fit))))
 
-    module _ (why : Refusal) (e : v ≡ Refuse why) where
-      pub may-count : Countable why s
-      may-count = countable s r head number p why (sound .same) (sym judged ∙ e)
+    pub acts-denied : (why : Refusal) → verdictOf r head number p ≡ Refuse why → (t : List ℕ) → Turns s t (λ x. leftBy why x) → Acts r head number p before at (Denied why) t before
+    acts-denied why e t g =
+        let q = step-of (Refuse why) e in
+        let body : stepBy r head number p .reply .body ≡ [] = ap (λ (x : Step). x .reply .body) q in
+        record {
+          held = held-by (λ x. leftBy why x) (ap (λ (x : Step). x .after) q) t g;
+          status = ap (λ (x : Step). x .reply .status) q;
+          told = rw body (refl, omega arith, sym (put-nil before (at + 3)));
+        }
 
-      pub acts-refuse : Bytes p → (t : List ℕ) → Turns s t (λ b. leftBy why b) → Acts r head number p (Refuse why) t
-      acts-refuse b t g =
-          let q : verdictOf r head number p ≡ Refuse why = sym judged ∙ e in
-          let a : stepBy r head number p .after ≡ leftBy why r = ap (λ (x : Step). x .after) (by-is r head number p) ∙ rw q refl in
-          record { verdict = sym q; held = rw a (turn-holds r s sound t (λ b. leftBy why b) g (rw (← a) (by-in r head number p b (sound .fit)))) }
+    module _ (w : Passes r head number p) where
+      pub acts-told : (n : ℕ) (t after : List ℕ) → Carried number s p before at (Told n) t after → Acts r head number p before at (Answered n) t after
+      acts-told n t after h =
+          let c = w .0 in
+          let d = h c (named-is head number c (w .1)) in
+          let q = step-of (Do c) (ranged r head number p w Fits (d .0)) in
+          let body : stepBy r head number p .reply .body ≡ dataOf c r p = ap (λ (x : Step). x .reply .body) q in
+          record { held = held-by (λ x. effectOf c x p) (ap (λ (x : Step). x .after) q) t (d .1); status = ap (λ (x : Step). x .reply .status) q; told = rw body (d .2) }
+
+      -- out of range nothing is written
+      denied : (x : Range) (why : Refusal) → byRange x (Do (w .0)) ≡ Refuse why → ((z : Record) → leftBy why z ≡ z) → (t after : List ℕ) → Carried number s p before at (Missed x) t after
+          → Acts r head number p before at (Denied why) t after
+      denied x why v same t after h =
+          let c = w .0 in
+          let d = h c (named-is head number c (w .1)) in
+          rw (d .2, d .3) (acts-denied why (ranged r head number p w x (d .0) ∙ v) s (λ z i e. e ∙ ap bytesOf (sym (same z))))
+
+      pub acts-small : (x : Range) → x ≡ Small → (t after : List ℕ) → Carried number s p before at (Missed x) t after → Acts r head number p before at (Denied TooSmall) t after
+      unfolding leftBy
+      acts-small x e t after h = denied x TooSmall (rw e refl) (λ z. refl) t after h
+
+      pub acts-big : (x : Range) → (x ≡ Small → ⊥) → (t after : List ℕ) → Carried number s p before at (Missed x) t after → Acts r head number p before at (Denied TooBig) t after
+      unfolding leftBy
+      acts-big x k t after h = denied x TooBig (left x k (h (w .0) (named-is head number (w .0) (w .1)) .1)) (λ z. refl) t after h
+        where
+          left : (x : Range) → (x ≡ Small → ⊥) → (x ≡ Fits → ⊥) → byRange x (Do (w .0)) ≡ Refuse TooBig
+          left Fits k f = absurd (f refl)
+          left Big k f = refl
+          left Small k f = absurd (k refl)
 
 -- ---- a whole frame and its reply
 
@@ -76,43 +175,27 @@ part f = take (length f - 1 - 3) (drop 3 f)
 part-is : (f : List ℕ) → part f ≡ paramsOf f
 part-is f = let e : length f - 1 - 3 ≡ length f - 4 = omega arith in rw e refl
 
-module _ (r : Record) (f before : List ℕ) (at : ℕ) (v : Verdict) (kept : List ℕ) (acts : Acts r (headOf f) (numberOf f) (part f) v kept) (room : at + frameMost ≤ length before) where
-  verdict-is : v ≡ verdictOf r (headOf f) (numberOf f) (paramsOf f)
-  verdict-is = acts .verdict ∙ rw (part-is f) refl
+module _ (r : Record) (f before : List ℕ) (at : ℕ) (a : Said) (kept mid : List ℕ) (acts : Acts r (headOf f) (numberOf f) (part f) before at a kept mid) (room : at + frameMost ≤ length before) where
+  kind-is : stepOf r f .reply .kind ≡ kindOf (headOf f)
+  kind-is = ap (λ (y : Step). y .reply .kind) (step-is r f) ∙ by (verdict r f)
+    where
+      by : (v : Verdict) → settled r (headOf f) (paramsOf f) v .reply .kind ≡ kindOf (headOf f)
+      by (Do c) = refl
+      by (Refuse why) = refl
 
-  held-is : Holds (stepOf r f .after) kept
-  held-is = rw (step-by r f, ← (part-is f)) (acts .held)
+  step-as : stepOf r f ≡ stepBy r (headOf f) (numberOf f) (part f)
+  step-as = step-by r f ∙ rw (part-is f) refl
 
-  replied : (a : Reply) (n end : ℕ) (after : List ℕ) → stepOf r f .reply ≡ a → length (a .body) ≡ n → n ≤ dataMost → end ≡ at + 4 + n → after ≡ put before at (replyBytes a) → Carries r f before at end kept after
-  replied a n end after e m k q o =
-      let w : length (replyBytes a) ≡ 4 + n = length-reply a ∙ rw m refl in
-      record { held = held-is; ends = rw (e, w) (omega arith); small = omega arith; bytes = rw e o }
-
-  module _ (c : Command) (e : v ≡ Do c) where
-    verdict-do : verdictOf r (headOf f) (numberOf f) (paramsOf f) ≡ Do c
-    verdict-do = sym verdict-is ∙ e
-
-    pub may-answer : (countedOf c (length (part f)) ≡ Right) × (rangeOf c (part f) ≡ Fits)
-    may-answer = let w = passed r (headOf f) (numberOf f) (paramsOf f) c verdict-do in rw (part-is f) (w .1, w .3)
-
-    -- the data of the record that the command left are those of the record before it
-    data-is : dataOf c (recordOf kept) (part f) ≡ dataOf c r (paramsOf f)
-    data-is =
-        let a : stepOf r f .after ≡ effectOf c r (paramsOf f) = ap (λ (x : Step). x .after) (step-is r f) ∙ rw verdict-do refl in
-        rw (part-is f, holds-is (stepOf r f .after) kept held-is, a) (data-after c r (paramsOf f))
-
-    pub carries-do : (n end : ℕ) (mid after : List ℕ) → PutsData before (at + 3) (dataOf c (recordOf kept) (part f)) n mid → end ≡ at + 4 + n → after ≡ around mid at (getD f 1 0) 0 n → Carries r f before at end kept after
-    carries-do n end mid after d q o =
-        let x : List ℕ = dataOf c r (paramsOf f) in
-        let m : length x ≡ n = ap length (sym data-is) ∙ sym (d .0) in
-        let said : stepOf r f .reply ≡ record { kind = kindOf (headOf f); status = 0x00; body = x } = ap (λ (y : Step). y .reply) (step-is r f) ∙ rw verdict-do refl in
-        replied (record { kind = kindOf (headOf f); status = 0x00; body = x }) n end after said m (d .1) q
-        (o ∙ closed-reply before at (getD f 1 0) 0 n x mid m (omega (arith, d .1)) (d .2 ∙ rw data-is refl))
-
-  module _ (why : Refusal) (e : v ≡ Refuse why) where
-    pub carries-refuse : (end status : ℕ) (after : List ℕ) → status ≡ statusOf why → end ≡ at + 4 + 0 → after ≡ around before at (getD f 1 0) status 0 → Carries r f before at end kept after
-    carries-refuse end status after st q o =
-        let w : verdictOf r (headOf f) (numberOf f) (paramsOf f) ≡ Refuse why = sym verdict-is ∙ e in
-        let a : Reply = record { kind = kindOf (headOf f); status = statusOf why; body = [] } in
-        let said : stepOf r f .reply ≡ a = ap (λ (y : Step). y .reply) (step-is r f) ∙ rw w refl in
-        replied a 0 end after said refl (omega arith) q (o ∙ rw st (closed-reply before at (getD f 1 0) (statusOf why) 0 [] before refl (omega arith) (sym (put-nil before (at + 3)))))
+  pub carries : (end status n : ℕ) (after : List ℕ) → status ≡ statusIn a → n ≡ countIn a → end ≡ at + 4 + n → after ≡ around mid at (getD f 1 0) status n → Carries r f before at end kept after
+  carries end status n after st m q o =
+      let x : List ℕ = stepOf r f .reply .body in
+      let d : PutsData before (at + 3) x n mid = rw (m, step-as) (acts .told) in
+      let same : stepOf r f .reply .status ≡ status = ap (λ (y : Step). y .reply .status) step-as ∙ acts .status ∙ sym st in
+      let said : stepOf r f .reply ≡ record { kind = kindOf (headOf f); status = status; body = x } = λ i. record { kind = kind-is i; status = same i; body = x } in
+      let long : length (replyBytes (stepOf r f .reply)) ≡ 4 + n = length-reply (stepOf r f .reply) ∙ ap (λ (k : ℕ). 4 + k) (sym (d .0)) in
+      record {
+        held = rw step-as (acts .held);
+        ends = rw long (omega (arith, q));
+        small = omega (arith, q, d .1);
+        bytes = o ∙ closed-reply before at (getD f 1 0) status n x mid (sym (d .0)) (omega (arith, d .1)) (d .2) ∙ ap (λ (y : Reply). put before at (replyBytes y)) (sym said);
+      }

@@ -6,35 +6,64 @@ ghost use lib.ListN.{length};
 ghost use Rattle.wire.specs.Sizes.{frameMost};
 ghost use Rattle.wire.specs.Serial.{isHead, headOf};
 ghost use Rattle.record.specs.Layout.{recordOf};
-ghost use Rattle.record.specs.InPlace.{Sound};
-ghost use Rattle.command.specs.Entries.{unpacked, rowsSay, entries};
-ghost use Rattle.carry.specs.Carry.{Acts, Carries};
+ghost use Rattle.record.specs.InPlace.{Sound, Turns};
+ghost use Rattle.command.specs.Entries.{entries};
+ghost use Rattle.command.specs.Step.{leftBy};
+ghost use Rattle.carry.specs.Carry.{Countable, Entered, ActsBy, Carries};
 use buffer::reply::close_reply;
-use command::Verdict;
-use data::put_data;
-use effect::refuse_on;
-use effect::take_effect;
+use command::Judged;
+use command::Refusal;
+use effect::Done;
+use effect::carry_out;
+use flags::count_try;
 use judge::judge;
 use table::entries::TABLE_SIZE;
 use table::entry_of;
 use table::status_of;
+use wire::Range;
 
-// Judges a command by its entry of the table, and does to the record what follows from that.
-pub fn act(entry: u8, rec: &mut [u8], head: u8, number: u8, p: &[u8]) -> Verdict
+// What a command is answered: so many bytes of data, or why it is refused.
+pub enum Said {
+    Answered(usize),
+    Denied(Refusal),
+}
+
+// Only a wrong code leaves a trace: a try more.
+fn refuse_on(rec: &mut [u8], why: Refusal)
     requires { ⌜ Sound (now rec) ⌝ }
-    requires { ⌜ unpacked entry ≡ rowsSay head number ⌝ }
-    ensures { λ v. ⌜ Acts (recordOf (now (rec .entry))) head number (now (p .entry)) v (now (rec .exit)) ⌝ }
+    requires { ⌜ Countable why (now rec) ⌝ }
+    ensures { λ _. ⌜ Turns (now (rec .entry)) (now (rec .exit)) (λ r. leftBy why r) ⌝ }
 {
-    let verdict = judge(entry, rec, head, number, p);
-    match verdict {
-        Verdict::Do(c) => {
-            take_effect(rec, c, p);
-        }
-        Verdict::Refuse(why) => {
+    match why {
+        Refusal::BadCode => count_try(rec),
+        _ => {}
+    }
+}
+
+// Judges a command by its entry of the table and carries it out; its data come to stand where a reply that begins at a place has them.
+pub fn act(entry: u8, rec: &mut [u8], number: u8, p: &[u8], out: &mut [u8], at: usize) -> Said
+    requires { ⌜ Sound (now rec) ⌝ }
+    requires { ⌜ Entered entry number ⌝ }
+    requires { ⌜ at + frameMost ≤ length (now out) ⌝ }
+    ensures { λ a. ⌜ ActsBy entry number (recordOf (now (rec .entry))) (now (p .entry)) (now (out .entry)) at a (now (rec .exit)) (now (out .exit)) ⌝ }
+{
+    let judged = judge(entry, rec, p);
+    match judged {
+        Judged::Refused(why) => {
             refuse_on(rec, why);
+            Said::Denied(why)
+        }
+        Judged::Passed => {
+            let done = carry_out(rec, number, p, out, at);
+            match done {
+                Done::Told(n) => Said::Answered(n),
+                Done::Missed(range) => match range {
+                    Range::Small => Said::Denied(Refusal::TooSmall),
+                    _ => Said::Denied(Refusal::TooBig),
+                },
+            }
         }
     }
-    verdict
 }
 
 // Carries out a whole frame and writes the reply at a place; returns the place behind it.
@@ -53,13 +82,12 @@ pub fn carry(
 {
     let end = frame.len() - 1;
     let p = &frame[3..end];
-    let entry = entry_of(table, frame[1], frame[2]);
-    let verdict = act(entry, rec, frame[1], frame[2], p);
-    match verdict {
-        Verdict::Do(c) => {
-            let n = put_data(rec, c, p, out, at + 3);
-            close_reply(out, at, frame[1], 0, n)
-        }
-        Verdict::Refuse(why) => close_reply(out, at, frame[1], status_of(why), 0),
+    let head = frame[1];
+    let number = frame[2];
+    let entry = entry_of(table, head, number);
+    let said = act(entry, rec, number, p, out, at);
+    match said {
+        Said::Answered(n) => close_reply(out, at, head, 0, n),
+        Said::Denied(why) => close_reply(out, at, head, status_of(why), 0),
     }
 }

@@ -16,7 +16,8 @@ use Rattle.record.specs.Limits.{inputRange}
 use Rattle.command.specs.declared.Command.{Command}
 use Rattle.command.specs.declared.Command.the-variants.{SetInput, ReadInput, SwitchOutput, ReadPair}
 use Rattle.command.specs.declared.Counted.the-variants.{Right}
-use Rattle.command.specs.Tables.{spanOf, countedOf, rangeOf, inputChannel, outputNumber, outputValue}
+use Rattle.command.specs.Rows.{inputChannel, outputNumber, outputValue}
+use Rattle.command.specs.Tables.{spanOf, countedOf, rangeOf}
 use Rattle.command.proofs.Keep.{counted-span}
 
 -- ---- bounds from ranges

@@ -1,8 +1,8 @@
 -- A code is compared exactly where the unlock command is rightly built, configuration mode closed and a try left.
 use Prim.Native.Nat.{ℕ, _<_}
-use mathlib.Core.Path.{_≡_, refl, ap}
+use mathlib.Core.Path.{_≡_, refl, sym, ap, _∙_}
 use mathlib.Core.Logic.{_↔_}
-use mathlib.Core.Bool.{Bool, true, false, not, _&&_, and-eq-true-iff}
+use mathlib.Core.Bool.{Bool, true, false, not, _&&_, and-eq-true-iff, true≢false}
 use mathlib.Core.List.{List}
 use lib.ListN.{length}
 use lib.Dec.{ltb}
@@ -10,41 +10,33 @@ use borrow.Author.Tests.{ltb-true, lt-ltb, not-true}
 use Rattle.wire.specs.Serial.{headOf, numberOf, paramsOf}
 use Rattle.record.specs.Record.{Record}
 use Rattle.command.specs.declared.Command.{Command}
-use Rattle.command.specs.declared.Command.the-variants.{Open, Close, ReadPower, SetPower, ReadStep, SetStep, ReadMode, SetMode, ReadName, SetName, ReadOnOff, SetOnOff, SetInput, ReadInput, SwitchOutput, SetInterval, ReadInterval, Unlock, ReadLock, ReadModel, SetModel, StopSending, StartSending, ReadFilter, SetFilter, ReadPair}
+use Rattle.command.specs.declared.Command.the-variants.{Open, Close, Read, Set, ReadName, SetName, SetInput, ReadInput, SwitchOutput, Unlock, ReadLock, ReadModel, SetModel, StopSending, StartSending, ReadPair}
 use Rattle.command.specs.declared.Listed.{Listed}
 use Rattle.command.specs.declared.Listed.the-variants.{Built, NotBuilt, Unlisted}
 use Rattle.command.specs.declared.Counted.{Counted}
 use Rattle.command.specs.declared.Counted.the-variants.{Right, Wrong}
+use Rattle.command.specs.Rows.{numbersOf}
 use Rattle.command.specs.Tables.{listedOf, countedOf, needOf}
 use Rattle.command.specs.Compare.{isRight, isCode, unlocking, compares}
+use Rattle.command.proofs.SettingRows.{no-code}
 
 code-alone : (c : Command) → isCode (needOf c) ≡ true → c ≡ Unlock
 unfolding needOf
 code-alone Open h = cc
 code-alone Close h = cc
-code-alone ReadPower h = cc
-code-alone SetPower h = cc
-code-alone ReadStep h = cc
-code-alone SetStep h = cc
-code-alone ReadMode h = cc
-code-alone SetMode h = cc
+code-alone (Read k) h = absurd (true≢false (sym h ∙ no-code (numbersOf k .radio)))
+code-alone (Set k) h = absurd (true≢false (sym h ∙ no-code (numbersOf k .radio)))
 code-alone ReadName h = cc
 code-alone SetName h = cc
-code-alone ReadOnOff h = cc
-code-alone SetOnOff h = cc
 code-alone SetInput h = cc
 code-alone ReadInput h = cc
 code-alone SwitchOutput h = cc
-code-alone SetInterval h = cc
-code-alone ReadInterval h = cc
 code-alone Unlock h = refl
 code-alone ReadLock h = cc
 code-alone ReadModel h = cc
 code-alone SetModel h = cc
 code-alone StopSending h = cc
 code-alone StartSending h = cc
-code-alone ReadFilter h = cc
-code-alone SetFilter h = cc
 code-alone ReadPair h = cc
 
 is-right : (x : Counted) → isRight x ≡ true → x ≡ Right

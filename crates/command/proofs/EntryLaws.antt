@@ -14,8 +14,9 @@ use Rattle.command.specs.declared.Listed.the-variants.{Built, NotBuilt, 
 use Rattle.command.specs.declared.Numbered.the-variants.{AsCommand, AsNotBuilt, AsUnknown}
 use Rattle.command.specs.declared.Need.{Need}
 use Rattle.command.specs.declared.Need.the-variants.{Nothing, Opened, Closed, Unlocked, Code}
-use Rattle.command.specs.Tables.{Span, Stands, listedOf, spanOf, needOf}
-use Rattle.command.specs.Entries.{Entry, SaysUnknown, SaysNotBuilt, Asks, saidBy, rowsSay, numberedBy, needBits, spanIn, needIn, isBuilt, unpacked, kindSize, headAt, placeOf, tableSize, entries}
+use Rattle.command.specs.Rows.{Span}
+use Rattle.command.specs.Tables.{Stands, listedOf, spanOf, needOf}
+use Rattle.command.specs.Entries.{Entry, SaysUnknown, SaysNotBuilt, Asks, saidBy, rowsSay, numberedBy, needBits, spanIn, needIn, isBuilt, isTidy, unpacked, kindSize, headAt, placeOf, tableSize, entries}
 
 -- ---- a test whether two entries are the same
 
@@ -63,16 +64,17 @@ same-is (Asks n s) (Asks m t) h =
 abbrev right : ℕ → ℕ → Bool
 right i e = same (unpacked e) (rowsSay (headAt i) (i % kindSize))
 
-abbrev every : ℕ → List ℕ → Bool
-every i [] = true
-every i (e ∷ es) = right i e && every (suc i) es
+module _ (f : ℕ → ℕ → Bool) where
+  abbrev every : ℕ → List ℕ → Bool
+  every i [] = true
+  every i (e ∷ es) = f i e && every (suc i) es
 
-at-each : (es : List ℕ) (i : ℕ) → T (every i es) → (k : ℕ) → k < length es → T (right (i + k) (getD es k 0))
-at-each [] i t k h = absurd (not-suc-le-zero h)
-at-each (e ∷ es) i t zero h = subst (λ (m : ℕ). T (right m e)) (sym (add-zero i)) (and-yes (right i e) (every (suc i) es) t .0)
-at-each (e ∷ es) i t (suc k) h =
-    subst (λ (m : ℕ). T (right m (getD es k 0))) (suc-add i k ∙ sym (add-suc i k))
-    (at-each es (suc i) (and-yes (right i e) (every (suc i) es) t .1) k (le-of-suc-le-suc h))
+  at-each : (es : List ℕ) (i : ℕ) → T (every i es) → (k : ℕ) → k < length es → T (f (i + k) (getD es k 0))
+  at-each [] i t k h = absurd (not-suc-le-zero h)
+  at-each (e ∷ es) i t zero h = subst (λ (m : ℕ). T (f m e)) (sym (add-zero i)) (and-yes (f i e) (every (suc i) es) t .0)
+  at-each (e ∷ es) i t (suc k) h =
+      subst (λ (m : ℕ). T (f m (getD es k 0))) (suc-add i k ∙ sym (add-suc i k))
+      (at-each es (suc i) (and-yes (f i e) (every (suc i) es) t .1) k (le-of-suc-le-suc h))
 
 -- ---- the whole table
 
@@ -80,7 +82,7 @@ pub table-long : length entries ≡ tableSize
 unfolding entries
 table-long = refl
 
-all-right : T (every 0 entries)
+all-right : T (every right 0 entries)
 unfolding entries listedOf needOf spanOf unpacked
 all-right = tt
 
@@ -88,7 +90,18 @@ all-right = tt
 pub table-says : (i : ℕ) → i < tableSize → unpacked (getD entries i 0) ≡ rowsSay (headAt i) (i % kindSize)
 table-says i h =
     same-is (unpacked (getD entries i 0)) (rowsSay (headAt i) (i % kindSize))
-    (subst (λ (m : ℕ). T (right m (getD entries i 0))) (zero-add i) (at-each entries 0 all-right i (rw table-long h)))
+    (subst (λ (m : ℕ). T (right m (getD entries i 0))) (zero-add i) (at-each right entries 0 all-right i (rw table-long h)))
+
+all-tidy : T (every (λ i e. isTidy e) 0 entries)
+unfolding entries listedOf needOf spanOf
+all-tidy = tt
+
+table-tidy : (i : ℕ) → i < tableSize → isTidy (getD entries i 0) ≡ true
+table-tidy i h = yes-true (isTidy (getD entries i 0)) (at-each (λ j e. isTidy e) entries 0 all-tidy i (rw table-long h))
+  where
+    yes-true : (b : Bool) → T b → b ≡ true
+    yes-true true t = refl
+    yes-true false t = absurd t
 
 -- the head alone chooses the half
 half-is : (head number : ℕ) (b : Bool) → eqb (head / 16) 0xA ≡ b → rowsSay (cond b 0xA0 0x90) number ≡ rowsSay head number
@@ -105,6 +118,12 @@ entry-says head number h = at-half (eqb (head / 16) 0xA) refl where
   at-half false e =
       let m : number % kindSize ≡ number = omega arith in
       table-says number (omega arith) ∙ rw (lt-ltb number kindSize h, m) (half-is head number false e)
+
+pub entry-tidy : (head number : ℕ) → number < kindSize → isTidy (getD entries (placeOf head number) 0) ≡ true
+entry-tidy head number h = at-half (eqb (head / 16) 0xA) where
+  at-half : (b : Bool) → isTidy (getD entries (cond b (kindSize + number) number) 0) ≡ true
+  at-half true = table-tidy (kindSize + number) (omega arith)
+  at-half false = table-tidy number (omega arith)
 
 -- ---- what an entry says of a number is what the rows say
 

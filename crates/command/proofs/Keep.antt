@@ -11,7 +11,8 @@ use Rattle.wire.specs.Sizes.{dataMost}
 use Rattle.wire.proofs.NumberLaws.{bytes-take, bytes-drop}
 use Rattle.wire.proofs.ZeroLaws.{cut-le, cut-cut, cut-bytes}
 use lib.Dec.{ltb, leb}
-use Rattle.wire.specs.Numbers.{Bytes, halfAt}
+use Rattle.wire.specs.Numbers.{Bytes}
+use Rattle.wire.proofs.PutLaws.{narrow}
 use Rattle.wire.specs.Ranges.{also}
 use Rattle.wire.specs.Zeros.{beforeZero}
 use Rattle.wire.specs.Serial.{headOf, numberOf, paramsOf}
@@ -20,8 +21,10 @@ use Rattle.wire.specs.declared.Range.the-variants.{Fits, Big, Small}
 use Rattle.record.specs.Record.{Record}
 use Rattle.record.specs.Limits.{inputRange}
 use Rattle.record.specs.Form.{InRange}
+use Rattle.record.specs.Settings.{settingWidth}
+use Rattle.record.proofs.SettingLaws.{widths, shown-length, setting-in}
 use Rattle.command.specs.declared.Command.{Command}
-use Rattle.command.specs.declared.Command.the-variants.{Open, Close, ReadPower, SetPower, ReadStep, SetStep, ReadMode, SetMode, ReadName, SetName, ReadOnOff, SetOnOff, SetInput, ReadInput, SwitchOutput, SetInterval, ReadInterval, Unlock, ReadLock, ReadModel, SetModel, StopSending, StartSending, ReadFilter, SetFilter, ReadPair}
+use Rattle.command.specs.declared.Command.the-variants.{Open, Close, Read, Set, ReadName, SetName, SetInput, ReadInput, SwitchOutput, Unlock, ReadLock, ReadModel, SetModel, StopSending, StartSending, ReadPair}
 use Rattle.command.specs.declared.Counted.the-variants.{Right}
 use Rattle.command.specs.declared.Need.{Need}
 use Rattle.command.specs.declared.Need.the-variants.{Nothing, Opened, Closed, Unlocked, Code}
@@ -30,8 +33,9 @@ use Rattle.command.specs.declared.Refusal.{Refusal}
 use Rattle.command.specs.declared.Refusal.the-variants.{Unknown, Unbuilt, Miscounted, NoAccess, BadCode, TooBig, TooSmall}
 use Rattle.command.specs.declared.Verdict.{Verdict}
 use Rattle.command.specs.declared.Verdict.the-variants.{Do, Refuse}
-use Rattle.command.specs.Tables.{spanOf, countedOf, countedBy, needOf, rangeOf, inputChannel}
-use Rattle.command.specs.Effects.{effectOf, dataOf, modelData}
+use Rattle.command.specs.Tables.{spanOf, countedOf, countedBy, needOf, rangeOf}
+use Rattle.command.specs.Rows.{inputChannel, modelData}
+use Rattle.command.specs.Effects.{effectOf, dataOf}
 use Rattle.command.specs.Judge.{accessOf, verdictOf}
 use Rattle.command.specs.Step.{leftBy, settled, stepBy, stepOf}
 use Rattle.command.proofs.Refused.{verdict, by-is, step-by, step-is, Checks, checks}
@@ -68,16 +72,10 @@ pub effect-in : (c : Command) (r : Record) (p : List ℕ) → countedOf c (lengt
 unfolding effectOf rangeOf spanOf
 effect-in Open r p n g b i = search
 effect-in Close r p n g b i = search
-effect-in ReadPower r p n g b i = i
-effect-in SetPower r p n g b i = let half : halfAt p 0 < 0x10000 = omega (arith, b 0, b 1) in search
-effect-in ReadStep r p n g b i = i
-effect-in SetStep r p n g b i = search
-effect-in ReadMode r p n g b i = i
-effect-in SetMode r p n g b i = search
+effect-in (Read k) r p n g b i = i
+effect-in (Set k) r p n g b i = setting-in k r p g b i
 effect-in ReadName r p n g b i = i
 effect-in SetName r p n g b i = let short : length p ≤ 15 = counted-span SetName (length p) n .1 in search
-effect-in ReadOnOff r p n g b i = i
-effect-in SetOnOff r p n g b i = search
 effect-in SetInput r p n g b i =
     let old = r .settings .inputs in
     let at = getD p 0 0 - 2 in
@@ -87,8 +85,6 @@ effect-in SetInput r p n g b i =
     search
 effect-in ReadInput r p n g b i = i
 effect-in SwitchOutput r p n g b i = search
-effect-in SetInterval r p n g b i = search
-effect-in ReadInterval r p n g b i = i
 effect-in Unlock r p n g b i = search
 effect-in ReadLock r p n g b i = i
 effect-in ReadModel r p n g b i = i
@@ -99,8 +95,6 @@ effect-in SetModel r p n g b i =
     search
 effect-in StopSending r p n g b i = search
 effect-in StartSending r p n g b i = search
-effect-in ReadFilter r p n g b i = i
-effect-in SetFilter r p n g b i = search
 effect-in ReadPair r p n g b i = i
 
 -- ---- a refusal
@@ -167,29 +161,19 @@ pub data-short : (c : Command) (r : Record) (p : List ℕ) → InRange r → len
 unfolding dataOf
 data-short Open r p i = omega arith
 data-short Close r p i = omega arith
-data-short ReadPower r p i = omega arith
-data-short SetPower r p i = omega arith
-data-short ReadStep r p i = omega arith
-data-short SetStep r p i = omega arith
-data-short ReadMode r p i = omega arith
-data-short SetMode r p i = omega arith
+data-short (Read k) r p i = omega (arith, shown-length k (r .settings), narrow (settingWidth k) (widths k))
+data-short (Set k) r p i = omega arith
 data-short ReadName r p i = i .name-length
 data-short SetName r p i = omega arith
-data-short ReadOnOff r p i = omega arith
-data-short SetOnOff r p i = omega arith
 data-short SetInput r p i = omega arith
 data-short ReadInput r p i = omega arith
 data-short SwitchOutput r p i = omega arith
-data-short SetInterval r p i = omega arith
-data-short ReadInterval r p i = omega arith
 data-short Unlock r p i = omega arith
 data-short ReadLock r p i = omega arith
 data-short ReadModel r p i = closed-short (r .model) (i .model-length)
 data-short SetModel r p i = omega arith
 data-short StopSending r p i = omega arith
 data-short StartSending r p i = omega arith
-data-short ReadFilter r p i = omega arith
-data-short SetFilter r p i = omega arith
 data-short ReadPair r p i = omega arith
 
 pub reply-short : (r : Record) (f : List ℕ) → InRange r → length (stepOf r f .reply .body) ≤ dataMost

@@ -1,5 +1,7 @@
 pub mod EntryLaws
 pub mod Refused
+pub mod SettingRows
+pub mod Named
 pub mod Blind
 pub mod Secrecy
 pub mod Compare

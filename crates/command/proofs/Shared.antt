@@ -7,12 +7,13 @@ use lib.ListN.{length}
 use Rattle.wire.specs.Numbers.{Bytes, wordAt}
 use Rattle.wire.specs.Zeros.{beforeZero}
 use Rattle.wire.specs.declared.Range.the-variants.{Fits}
+use Rattle.record.specs.declared.Setting.the-variants.{Filter}
 use Rattle.record.specs.Record.{Record, withFilter}
 use Rattle.record.specs.Layout.{Plan, PowerHalf, has, modelRoom}
 use Rattle.record.specs.Form.{Unless, Silent, InRangeIn}
 use Rattle.wire.proofs.ZeroLaws.{cut-le, cut-cut, cut-bytes}
 use Rattle.record.proofs.Pieces.{unless-map}
-use Rattle.command.specs.declared.Command.the-variants.{Unlock, SetModel, StopSending, StartSending, SetFilter}
+use Rattle.command.specs.declared.Command.the-variants.{Set, Unlock, SetModel, StopSending, StartSending}
 use Rattle.command.specs.Tables.{rangeIn}
 use Rattle.command.specs.Effects.{effectOf}
 
@@ -37,7 +38,7 @@ module _ (p : Plan) (r : Record) (q : List ℕ) (i : InRangeIn p r) where
       let bytes = cut-bytes q b in
       search
 
-  pub filter-in : rangeIn p SetFilter q ≡ Fits → InRangeIn p (effectOf SetFilter r q)
+  pub filter-in : rangeIn p (Set Filter) q ≡ Fits → InRangeIn p (effectOf (Set Filter) r q)
   unfolding effectOf rangeIn
   filter-in h =
       let silent : Unless (has (p .parts) PowerHalf) (Silent (withFilter (r .settings) (wordAt q 0)) (r .outputs)) =

@@ -1,6 +1,6 @@
 -- One table for all numbers: 512 entries of one byte, each what the rows say of one number under one kind of head.
 use Prim.Native.Nat.{ℕ, zero, suc, _+_, _-_, _/_, _%_}
-use mathlib.Core.Bool.{Bool, cond, not}
+use mathlib.Core.Bool.{Bool, cond, not, _||_}
 use mathlib.Core.List.{List, [], _∷_}
 use lib.Dec.{ltb, eqb}
 use Rattle.record.specs.Layout.{bitOf}
@@ -10,7 +10,8 @@ use Rattle.command.specs.declared.Numbered.{Numbered}
 use Rattle.command.specs.declared.Numbered.the-variants.{AsCommand, AsNotBuilt, AsUnknown}
 use Rattle.command.specs.declared.Need.{Need}
 use Rattle.command.specs.declared.Need.the-variants.{Nothing, Opened, Closed, Unlocked, Code}
-use Rattle.command.specs.Tables.{Span, exactly, listedOf, spanOf, needOf}
+use Rattle.command.specs.Rows.{Span, exactly}
+use Rattle.command.specs.Tables.{listedOf, spanOf, needOf}
 
 -- "each giving unknown, not built, or the access needed with the least and most parameters"
 pub data Entry : Type 0 where
@@ -66,6 +67,10 @@ needIn e = cond (bitOf e 0x40) Code (cond (bitOf e 0x20) Unlocked (cond (bitOf e
 -- taken in one mode, or in both
 abbrev pub isBuilt : ℕ → Bool
 isBuilt e = not (eqb (e / 8 % 4) 0)
+
+-- beside the span a command's entry has just the bits of what it needs
+abbrev pub isTidy : ℕ → Bool
+isTidy e = not (isBuilt e) || eqb (e / 8) (needBits (needIn e) / 8)
 
 unfoldable pub unpacked : ℕ → Entry
 unpacked e = cond (isBuilt e) (Asks (needIn e) (spanIn e)) (cond (eqb e 0) SaysUnknown SaysNotBuilt)

@@ -1,3 +1,4 @@
+pub mod Rows
 pub mod Tables
 pub mod Entries
 pub mod Effects

@@ -1,32 +1,23 @@
 // The words of the command tables and of the judge; what they mean is in the definitions.
+use record::Setting;
 
-// The commands of both tables, in the order of the tables.
+// The commands of both tables, in the order of the tables; a setting that is one number has one that reads it and one that sets it. The definitions' word: in code a command is the arm of its number in `effect`.
 pub enum Command {
     Open,
     Close,
-    ReadPower,
-    SetPower,
-    ReadStep,
-    SetStep,
-    ReadMode,
-    SetMode,
+    Read(Setting),
+    Set(Setting),
     ReadName,
     SetName,
-    ReadOnOff,
-    SetOnOff,
     SetInput,
     ReadInput,
     SwitchOutput,
-    SetInterval,
-    ReadInterval,
     Unlock,
     ReadLock,
     ReadModel,
     SetModel,
     StopSending,
     StartSending,
-    ReadFilter,
-    SetFilter,
     ReadPair,
 }
 
@@ -77,8 +68,14 @@ pub enum Refusal {
     TooSmall,
 }
 
-// What becomes of a frame.
+// What becomes of a frame; the definitions' word.
 pub enum Verdict {
     Do(Command),
     Refuse(Refusal),
+}
+
+// What the checks that an entry decides say of it: number, count and access.
+pub enum Judged {
+    Passed,
+    Refused(Refusal),
 }

@@ -13,78 +13,13 @@ use borrow.Author.Tests.{lt-ltb, le-ltb}
 use Rattle.wire.specs.Sizes.{dataMost}
 use Rattle.wire.specs.Numbers.{bytesAt, put}
 use Rattle.wire.specs.Zeros.{beforeZero}
-use Rattle.wire.proofs.NumberLaws.{part-is}
-use Rattle.wire.proofs.PutLaws.{put-nil, put-one, put-two, put-four, put-put, put-byte}
-use Rattle.record.specs.Record.{Record}
-use Rattle.record.specs.Layout.{recordSize, nameRoom, modelRoom, atNameLength, atName, atInputs, atPower, atFilter, atPairs, bitOf, recordOf}
-use Rattle.record.specs.InPlace.{Sound}
+use Rattle.wire.proofs.NumberLaws.{length-part, part-is}
+use Rattle.wire.proofs.PutLaws.{put-nil, put-one, put-two, put-put, put-byte}
+use Rattle.record.specs.Layout.{nameRoom, modelRoom, atName, atInputs, bitOf}
 use Rattle.wire.proofs.ZeroLaws.{cut-take, cut-le}
 use Rattle.record.proofs.Parts.{part-at}
-use Rattle.record.proofs.Lens.{long, get-name-length, get-power-bytes, get-filter-bytes, get-pair-bytes}
-use Rattle.command.specs.declared.Command.{Command}
-use Rattle.command.specs.declared.Command.the-variants.{Open, Close, ReadPower, SetPower, ReadStep, SetStep, ReadMode, SetMode, ReadName, SetName, ReadOnOff, SetOnOff, SetInput, ReadInput, SwitchOutput, SetInterval, ReadInterval, Unlock, ReadLock, ReadModel, SetModel, StopSending, StartSending, ReadFilter, SetFilter, ReadPair}
-use Rattle.command.specs.Effects.{effectOf, dataOf, modelData}
+use Rattle.command.specs.Rows.{modelData}
 use Rattle.data.specs.PutsData.{PutsData}
-
--- a command that changes the record answers nothing of it, so that the data may be read after the effect
-pub data-after : (c : Command) (r : Record) (p : List ℕ) → dataOf c (effectOf c r p) p ≡ dataOf c r p
-unfolding effectOf dataOf
-data-after Open r p = refl
-data-after Close r p = refl
-data-after ReadPower r p = refl
-data-after SetPower r p = refl
-data-after ReadStep r p = refl
-data-after SetStep r p = refl
-data-after ReadMode r p = refl
-data-after SetMode r p = refl
-data-after ReadName r p = refl
-data-after SetName r p = refl
-data-after ReadOnOff r p = refl
-data-after SetOnOff r p = refl
-data-after SetInput r p = refl
-data-after ReadInput r p = refl
-data-after SwitchOutput r p = refl
-data-after SetInterval r p = refl
-data-after ReadInterval r p = refl
-data-after Unlock r p = refl
-data-after ReadLock r p = refl
-data-after ReadModel r p = refl
-data-after SetModel r p = refl
-data-after StopSending r p = refl
-data-after StartSending r p = refl
-data-after ReadFilter r p = refl
-data-after SetFilter r p = refl
-data-after ReadPair r p = refl
-
--- in the arm of a command: d is its data
-pub answer-as : (c k : Command) → c ≡ k → (r : Record) (p d : List ℕ) → d ≡ dataOf k r p → (before : List ℕ) (at n : ℕ) (after : List ℕ)
-    → PutsData before at d n after → PutsData before at (dataOf c r p) n after
-answer-as c k told r p d e before at n after g =
-    subst⁻¹ (λ (x : Command). PutsData before at (dataOf x r p) n after) told (subst (λ (l : List ℕ). PutsData before at l n after) e g)
-
--- ---- data of a record, out of its bytes
-
-module _ (s : List ℕ) (h : Sound s) where
-  pub sound-long : length s ≡ recordSize
-  sound-long = ap length (h .same) ∙ long (recordOf s)
-
-  pub sound-name : getD s atNameLength 0 ≤ 15
-  sound-name = subst⁻¹ (λ (n : ℕ). n ≤ 15) (ap (λ (l : List ℕ). getD l atNameLength 0) (h .same) ∙ get-name-length (recordOf s)) (h .fit .name-length)
-
-  module _ (p : List ℕ) where
-    pub power-data : getD s atPower 0 ∷ getD s (atPower + 1) 0 ∷ [] ≡ dataOf ReadPower (recordOf s) p
-    unfolding dataOf
-    power-data = ap (λ (l : List ℕ). bytesAt 2 l atPower) (h .same) ∙ get-power-bytes (recordOf s)
-
-    pub filter-data : bytesAt 4 s atFilter ≡ dataOf ReadFilter (recordOf s) p
-    unfolding dataOf
-    filter-data = ap (λ (l : List ℕ). bytesAt 4 l atFilter) (h .same) ∙ get-filter-bytes (recordOf s)
-
-    pub pair-data : 1 ≤ getD p 0 0 → getD p 0 0 ≤ 6 → 0x00 ∷ bytesAt 8 s (atPairs + 8 * (getD p 0 0 - 1)) ≡ dataOf ReadPair (recordOf s) p
-    unfolding dataOf
-    pair-data l m =
-        let k = getD p 0 0 - 1 in
-        ap (λ (x : List ℕ). 0x00 ∷ x) (ap (λ (x : List ℕ). bytesAt 8 x (atPairs + 8 * k)) (h .same) ∙ get-pair-bytes (recordOf s) k (omega arith))
 
 -- ---- single bytes
 
@@ -104,10 +39,6 @@ input-byte s k l h =
 
 -- ---- each kind of data in a buffer with room
 
-pub put-word : (d s : List ℕ) (at from : ℕ) → at + 4 ≤ length d
-    → set (set (set (set d at (getD s from 0)) (at + 1) (getD s (from + 1) 0)) (at + 2) (getD s (from + 2) 0)) (at + 3) (getD s (from + 3) 0) ≡ put d at (bytesAt 4 s from)
-put-word d s at from h = put-four d at (getD s from 0) (getD s (from + 1) 0) (getD s (from + 2) 0) (getD s (from + 3) 0) h ∙ simp towards-suc
-
 module _ (d : List ℕ) (at : ℕ) (room : at + dataMost ≤ length d) where
   pub answers-none : PutsData d at [] 0 d
   answers-none = (refl, omega arith, sym (put-nil d at))
@@ -123,6 +54,10 @@ module _ (d : List ℕ) (at : ℕ) (room : at + dataMost ≤ length d) where
 
   pub answers-input : (s : List ℕ) (k : ℕ) → 2 ≤ k → k ≤ 6 → PutsData d at (getD (bytesAt 5 s atInputs) (k - 2) 0 ∷ []) 1 (set d at (getD s (k + 12) 0))
   answers-input s k l h = rw (input-byte s k l h) (answers-one (getD s (k + 12) 0))
+
+  -- the bytes of a number
+  pub answers-number : (s : List ℕ) (from n : ℕ) (x : List ℕ) → n ≤ 4 → x ≡ put d at (bytesAt n s from) → PutsData d at (bytesAt n s from) n x
+  answers-number s from n x h e = (sym (length-part n s from), omega arith, e)
 
   -- a word and the next behind a 00
   pub answers-pair : (s : List ℕ) (from : ℕ) (x y : List ℕ) → x ≡ put (set d at 0x00) (at + 1) (bytesAt 4 s from) → y ≡ put x (at + 5) (bytesAt 4 s (from + 4))

@@ -7,27 +7,24 @@ ghost use lib.ListN.{length};
 ghost use Rattle.record.specs.Layout.{FlagByte, atFlags};
 ghost use Rattle.record.specs.InPlace.{Sound, Shows, SoundAt, ShowsAt};
 ghost use Rattle.command.specs.declared.Need.the-variants.{Unlocked, Code};
-ghost use Rattle.command.specs.Entries.{needIn, isBuilt, unpacked, rowsSay};
-ghost use Rattle.command.specs.Judge.{accessOf, verdictOf};
-ghost use Rattle.judge.specs.Checks.{asks};
+ghost use Rattle.command.specs.Entries.{needIn, isBuilt, isTidy, unpacked};
+ghost use Rattle.command.specs.Judge.{accessOf};
+ghost use Rattle.judge.specs.Checks.{asks, Known, judgedBy};
 use buffer::numbers::word_at;
 use command::Access;
 use command::Counted;
+use command::Judged;
 use command::Numbered;
 use command::Refusal;
-use command::Verdict;
-use range::check_range;
 use record::places::AT_CODE;
 use record::places::AT_FLAGS;
 use record::places::AT_TRIES;
 use table::check_count;
 use table::check_number;
-use table::command_of;
 use table::entries::CLOSED;
 use table::entries::CODE;
 use table::entries::LOCK;
 use table::entries::OPENED;
-use wire::Range;
 
 fn is_open(rec: &[u8]) -> bool
     requires { ⌜ SoundAt FlagByte atFlags (now rec) ⌝ }
@@ -75,60 +72,52 @@ fn lock_access(rec: &[u8]) -> Access
     Access::Missing
 }
 
-// 62: what the entry of a built command asks of the board.
+// 62: what the entry of a built command asks of the board. The mode first, as for most nothing else is asked.
 fn check_access(entry: u8, rec: &[u8], p: &[u8]) -> Access
     requires { ⌜ Sound (now rec) ⌝ }
-    requires { ⌜ (isBuilt entry ≡ true) × (asks (needIn entry) ≤ length (now p)) ⌝ }
+    requires { ⌜ (isBuilt entry ≡ true) × (isTidy entry ≡ true) × (asks (needIn entry) ≤ length (now p)) ⌝ }
     ensures { λ r. ⌜ Shows (now (rec .entry)) r (λ b. accessOf (needIn entry) b (now (p .entry))) ⌝ }
 {
-    if entry / CODE % 2 == 1 {
-        return code_access(rec, p);
-    }
-    if entry / LOCK % 2 == 1 {
-        return lock_access(rec);
-    }
     if is_open(rec) {
         if entry / OPENED % 2 == 1 {
             return Access::Given;
         }
         return Access::Missing;
     }
-    if entry / CLOSED % 2 == 1 {
+    if entry / CLOSED % 2 != 1 {
+        return Access::Missing;
+    }
+    if entry < LOCK {
         return Access::Given;
     }
-    Access::Missing
+    if entry < CODE {
+        return lock_access(rec);
+    }
+    code_access(rec, p)
 }
 
-// The entry decides; head and number only name the command.
-pub fn judge(entry: u8, rec: &[u8], head: u8, number: u8, p: &[u8]) -> Verdict
+// What the entry of a number decides; the range is looked at where the command is known.
+pub fn judge(entry: u8, rec: &[u8], p: &[u8]) -> Judged
     requires { ⌜ Sound (now rec) ⌝ }
-    requires { ⌜ unpacked entry ≡ rowsSay head number ⌝ }
-    ensures { λ r. ⌜ Shows (now (rec .entry)) r (λ b. verdictOf b head number (now (p .entry))) ⌝ }
+    requires { ⌜ Known entry ⌝ }
+    ensures { λ r. ⌜ Shows (now (rec .entry)) r (λ b. judgedBy (unpacked entry) b (now (p .entry))) ⌝ }
 {
     let numbered = check_number(entry);
     let Numbered::AsCommand = numbered else {
         return match numbered {
-            Numbered::AsNotBuilt => Verdict::Refuse(Refusal::Unbuilt),
-            _ => Verdict::Refuse(Refusal::Unknown),
+            Numbered::AsNotBuilt => Judged::Refused(Refusal::Unbuilt),
+            _ => Judged::Refused(Refusal::Unknown),
         };
     };
     let Counted::Right = check_count(entry, p.len()) else {
-        return Verdict::Refuse(Refusal::Miscounted);
+        return Judged::Refused(Refusal::Miscounted);
     };
     let access = check_access(entry, rec, p);
     let Access::Given = access else {
         return match access {
-            Access::WrongCode => Verdict::Refuse(Refusal::BadCode),
-            _ => Verdict::Refuse(Refusal::NoAccess),
+            Access::WrongCode => Judged::Refused(Refusal::BadCode),
+            _ => Judged::Refused(Refusal::NoAccess),
         };
     };
-    let c = command_of(head, number);
-    let range = check_range(c, p);
-    let Range::Fits = range else {
-        return match range {
-            Range::Small => Verdict::Refuse(Refusal::TooSmall),
-            _ => Verdict::Refuse(Refusal::TooBig),
-        };
-    };
-    Verdict::Do(c)
+    Judged::Passed
 }

@@ -10,16 +10,16 @@ use lib.Dec.{ltb, leb}
 use Rattle.wire.specs.Ranges.{fits, also}
 use Rattle.wire.specs.declared.Range.{Range}
 use Rattle.wire.specs.declared.Range.the-variants.{Fits, Big, Small}
+use Rattle.record.specs.declared.Setting.{Setting}
+use Rattle.record.specs.declared.Limits.{Limits}
+use Rattle.record.specs.Settings.{looksAt, sheetOf, settingWidth}
+use Rattle.record.proofs.SettingLaws.{looks-wide}
 use Rattle.record.specs.Limits.{powerRange, intervalRange, nameRange}
 use Rattle.record.proofs.Bounds.{power-range, interval-range}
-use Rattle.command.specs.declared.Command.{Command}
-use Rattle.command.specs.declared.Counted.the-variants.{Right}
-use Rattle.command.specs.Tables.{spanOf, countedOf}
-use Rattle.command.proofs.Keep.{counted-span}
 
--- so many parameters are there once the command is known
-pub enough : (c d : Command) (n : ℕ) → c ≡ d → countedOf c n ≡ Right → spanOf d .least ≤ n
-enough c d n e h = rw e at (counted-span c n h .0)
+-- what a setting's range looks at is there
+pub as-long : (k : Setting) (x : Limits) → sheetOf k .limits ≡ x → (n : ℕ) → settingWidth k ≤ n → looksAt x ≤ n
+as-long k x e n h = rw (← e, looks-wide k) h
 
 -- on which side a value is that does not fit
 abbrev pub side : Bool → Range

@@ -1,23 +1,24 @@
-// 54, 55: whether the parameters of a command are in their ranges.
+// 54, 55: whether the parameters of a command are in their ranges, from the left.
 ghost use mathlib.Core.Path.{_≡_};
-ghost use lib.ListN.{length};
+ghost use Prim.Native.Nat.{_≤_};
+ghost use lib.ListN.{length, getD};
 ghost use lib.IntN.{pos};
 ghost use Rattle.wire.specs.Numbers.{signed8};
 ghost use Rattle.wire.specs.Ranges.{within, unsigned, also};
-ghost use Rattle.record.specs.Limits.{powerRange, intervalRange, filterRange, nameRange};
-ghost use Rattle.command.specs.declared.Counted.the-variants.{Right};
-ghost use Rattle.command.specs.Tables.{countedOf, rangeOf};
+ghost use Rattle.record.specs.Layout.{current, channels};
+ghost use Rattle.record.specs.Limits.{powerRange, inputRange, intervalRange, filterRange, nameRange};
+ghost use Rattle.record.specs.Settings.{rangeBy, sheetOf, settingWidth};
+ghost use Rattle.command.specs.Rows.{inputChannel, outputNumber, outputValue, pairChannel};
 use buffer::numbers::half_at;
 use buffer::numbers::word_at;
-use command::Command;
 use limits::INPUT_TYPE_MOST;
 use limits::INTERVAL_MOST;
-use limits::MODE_MOST;
-use limits::ON_OFF_MOST;
-use limits::STEP_MOST;
 use limits::interval_fits;
+use limits::limits_of;
 use limits::name_bytes;
 use limits::power_fits;
+use record::Limits;
+use record::Setting;
 use record::places::CHANNELS;
 use record::places::FILTERS;
 use wire::Range;
@@ -79,7 +80,7 @@ fn filter_range(bound: u32, w: u32) -> Range
     Range::Big
 }
 
-fn name_range(p: &[u8]) -> Range
+pub fn name_range(p: &[u8]) -> Range
     ensures { λ r. ⌜ r ≡ nameRange (now (p .entry)) ⌝ }
 {
     if name_bytes(p, 0, p.len()) {
@@ -99,40 +100,51 @@ fn both_ranges(first: Range, second: Range) -> Range
     }
 }
 
-// The parameters from the left.
-pub fn check_range(c: Command, p: &[u8]) -> Range
-    requires { ⌜ countedOf c (length (now p)) ≡ Right ⌝ }
-    ensures { λ r. ⌜ r ≡ rangeOf c (now (p .entry)) ⌝ }
+// The parameters of the command that sets a setting.
+pub fn setting_range(k: Setting, p: &[u8]) -> Range
+    requires { ⌜ settingWidth k ≤ length (now p) ⌝ }
+    ensures { λ r. ⌜ r ≡ rangeBy (sheetOf k .limits) current (now (p .entry)) ⌝ }
 {
-    match c {
-        Command::Open => Range::Fits,
-        Command::Close => Range::Fits,
-        Command::ReadPower => Range::Fits,
-        Command::SetPower => power_range(half_at(p, 0)),
-        Command::ReadStep => Range::Fits,
-        Command::SetStep => signed_range(0, STEP_MOST, p[0]),
-        Command::ReadMode => Range::Fits,
-        Command::SetMode => signed_range(0, MODE_MOST, p[0]),
-        Command::ReadName => Range::Fits,
-        Command::SetName => name_range(p),
-        Command::ReadOnOff => Range::Fits,
-        Command::SetOnOff => signed_range(0, ON_OFF_MOST, p[0]),
-        Command::SetInput => both_ranges(
-            signed_range(2, 6, p[0]),
-            signed_range(0, INPUT_TYPE_MOST, p[1]),
-        ),
-        Command::ReadInput => signed_range(2, 6, p[0]),
-        Command::SwitchOutput => both_ranges(signed_range(1, 4, p[0]), signed_range(0, 1, p[1])),
-        Command::SetInterval => interval_range(p[0]),
-        Command::ReadInterval => Range::Fits,
-        Command::Unlock => Range::Fits,
-        Command::ReadLock => Range::Fits,
-        Command::ReadModel => Range::Fits,
-        Command::SetModel => Range::Fits,
-        Command::StopSending => Range::Fits,
-        Command::StartSending => Range::Fits,
-        Command::ReadFilter => Range::Fits,
-        Command::SetFilter => filter_range(FILTERS, word_at(p, 0)),
-        Command::ReadPair => unsigned_range(1, CHANNELS, p[0]),
+    let limits = limits_of(k);
+    match limits {
+        Limits::Upto(most) => signed_range(0, most, p[0]),
+        Limits::OfPower => power_range(half_at(p, 0)),
+        Limits::OfInterval => interval_range(p[0]),
+        Limits::OfFilter => filter_range(FILTERS, word_at(p, 0)),
     }
+}
+
+// The number of a channel that has an input type.
+pub fn channel_range(p: &[u8]) -> Range
+    requires { ⌜ 1 ≤ length (now p) ⌝ }
+    ensures { λ r. ⌜ r ≡ inputChannel (getD (now (p .entry)) 0 0) ⌝ }
+{
+    signed_range(2, 6, p[0])
+}
+
+// A channel and its input type.
+pub fn input_range(p: &[u8]) -> Range
+    requires { ⌜ 2 ≤ length (now p) ⌝ }
+    ensures { λ r. ⌜ r ≡ also (inputChannel (getD (now (p .entry)) 0 0)) (inputRange (getD (now (p .entry)) 1 0)) ⌝ }
+{
+    both_ranges(
+        signed_range(2, 6, p[0]),
+        signed_range(0, INPUT_TYPE_MOST, p[1]),
+    )
+}
+
+// The number of an output, and what it is switched to.
+pub fn output_range(p: &[u8]) -> Range
+    requires { ⌜ 2 ≤ length (now p) ⌝ }
+    ensures { λ r. ⌜ r ≡ also (outputNumber (getD (now (p .entry)) 0 0)) (outputValue (getD (now (p .entry)) 1 0)) ⌝ }
+{
+    both_ranges(signed_range(1, 4, p[0]), signed_range(0, 1, p[1]))
+}
+
+// The number of a channel that has a pair.
+pub fn pair_range(p: &[u8]) -> Range
+    requires { ⌜ 1 ≤ length (now p) ⌝ }
+    ensures { λ r. ⌜ r ≡ pairChannel channels (getD (now (p .entry)) 0 0) ⌝ }
+{
+    unsigned_range(1, CHANNELS, p[0])
 }

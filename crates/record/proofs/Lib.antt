@@ -7,6 +7,7 @@ pub mod RoundTrip
 pub mod Stores
 pub mod Lens
 pub mod Bounds
+pub mod SettingLaws
 pub mod Births
 pub mod Reading
 pub mod InPlaceLaws

@@ -1,6 +1,7 @@
 pub mod Record
 pub mod Limits
 pub mod Layout
+pub mod Settings
 pub mod Laid
 pub mod Places
 pub mod Form

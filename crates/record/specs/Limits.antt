@@ -9,22 +9,44 @@ use Rattle.wire.specs.Numbers.{signed8, signed16}
 use Rattle.wire.specs.Ranges.{within, also}
 use Rattle.wire.specs.declared.Range.{Range}
 use Rattle.wire.specs.declared.Range.the-variants.{Fits, Big, Small}
+use Rattle.record.specs.declared.Limits.{Limits}
+use Rattle.record.specs.declared.Limits.the-variants.{Upto, OfPower, OfInterval, OfFilter}
 
 -- Classic power: "2 signed, -20..12"; wrong is "Reading power low byte first, or unsigned."
 abbrev pub powerRange : ℕ → Range
 powerRange w = within (negsuc 19) (pos 12) (signed16 w)
 
--- LE power step: "1, 0..5"; "One-byte parameters are signed."
+-- a byte from 0 to a number; "One-byte parameters are signed."
+abbrev pub upto : ℕ → ℕ → Range
+upto most b = within (pos 0) (pos most) (signed8 b)
+
+-- the range of a byte where a number gives it; the other kinds have ranges of their own, below
+abbrev pub byteRange : Limits → ℕ → Range
+byteRange (Upto most) b = upto most b
+byteRange OfPower b = Fits
+byteRange OfInterval b = Fits
+byteRange OfFilter b = Fits
+
+-- LE power step: "1, 0..5"
+abbrev pub stepLimits : Limits
+stepLimits = Upto 5
+
 abbrev pub stepRange : ℕ → Range
-stepRange b = within (pos 0) (pos 5) (signed8 b)
+stepRange b = byteRange stepLimits b
 
 -- mode: "1, 0..1"
+abbrev pub modeLimits : Limits
+modeLimits = Upto 1
+
 abbrev pub modeRange : ℕ → Range
-modeRange b = within (pos 0) (pos 1) (signed8 b)
+modeRange b = byteRange modeLimits b
 
 -- on/off state: "1, 0..2"
+abbrev pub onOffLimits : Limits
+onOffLimits = Upto 2
+
 abbrev pub onOffRange : ℕ → Range
-onOffRange b = within (pos 0) (pos 2) (signed8 b)
+onOffRange b = byteRange onOffLimits b
 
 -- input type: "type 0..1"
 abbrev pub inputRange : ℕ → Range

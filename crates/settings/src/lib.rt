@@ -1,48 +1,25 @@
-// Settings and outputs of a record stored in its bytes, in every layout that has them at these places, one function for each change that a command can make.
+// Settings and outputs of a record stored in its bytes, in every layout that has them at these places.
 ghost use mathlib.Core.Path.{_≡_};
 ghost use Prim.Native.Nat.{_-_, _^_, _≤_};
 ghost use lib.ListN.{length, set};
 ghost use lib.Dec.{eqb};
-ghost use Rattle.wire.specs.Numbers.{halfAt, wordAt};
-ghost use Rattle.record.specs.Record.{withOutput, withPower, withStep, withMode, withOnOff, withInputs, withInterval, withFilter, withSettings, withOutputs};
-ghost use Rattle.record.specs.Layout.{PowerHalf, StepByte, ModeByte, OnOffByte, InputBytes, OutputByte, IntervalByte, FilterWord, atPower, atStep, atMode, atOnOff, atInputs, atOutputs, atInterval};
+ghost use Rattle.record.specs.Record.{withOutput, withInputs, withSettings, withOutputs};
+ghost use Rattle.record.specs.Layout.{InputBytes, OutputByte, atInputs, atOutputs};
+ghost use Rattle.record.specs.Settings.{sheetOf, settingWidth};
 ghost use Rattle.record.specs.InPlace.{SoundAt, TurnsAt};
-use record::places::AT_INTERVAL;
-use record::places::AT_MODE;
-use record::places::AT_ON_OFF;
+use buffer::numbers::put_number;
+use limits::width_of;
+use record::Setting;
 use record::places::AT_OUTPUTS;
-use record::places::AT_POWER;
-use record::places::AT_STEP;
 use record::places::BEFORE_INPUTS;
 
-pub fn set_power(rec: &mut [u8], p: &[u8])
-    requires { ⌜ SoundAt PowerHalf atPower (now rec) ⌝ }
-    requires { ⌜ length (now p) ≡ 2 ⌝ }
-    ensures { λ _. ⌜ TurnsAt PowerHalf atPower (now (rec .entry)) (now (rec .exit)) (λ r. withSettings r (withPower (r .settings) (halfAt (now (p .entry)) 0))) ⌝ }
+// At the place that the layout gives the setting.
+pub fn store(rec: &mut [u8], at: usize, k: Setting, p: &[u8])
+    requires { ⌜ SoundAt (sheetOf k .part) at (now rec) ⌝ }
+    requires { ⌜ length (now p) ≡ settingWidth k ⌝ }
+    ensures { λ _. ⌜ TurnsAt (sheetOf k .part) at (now (rec .entry)) (now (rec .exit)) (λ r. withSettings r ((sheetOf k .stored) (r .settings) (now (p .entry)))) ⌝ }
 {
-    rec[AT_POWER] = p[0];
-    rec[AT_POWER + 1] = p[1];
-}
-
-pub fn set_step(rec: &mut [u8], v: u8)
-    requires { ⌜ SoundAt StepByte atStep (now rec) ⌝ }
-    ensures { λ _. ⌜ TurnsAt StepByte atStep (now (rec .entry)) (now (rec .exit)) (λ r. withSettings r (withStep (r .settings) v)) ⌝ }
-{
-    rec[AT_STEP] = v;
-}
-
-pub fn set_mode(rec: &mut [u8], v: u8)
-    requires { ⌜ SoundAt ModeByte atMode (now rec) ⌝ }
-    ensures { λ _. ⌜ TurnsAt ModeByte atMode (now (rec .entry)) (now (rec .exit)) (λ r. withSettings r (withMode (r .settings) v)) ⌝ }
-{
-    rec[AT_MODE] = v;
-}
-
-pub fn set_on_off(rec: &mut [u8], v: u8)
-    requires { ⌜ SoundAt OnOffByte atOnOff (now rec) ⌝ }
-    ensures { λ _. ⌜ TurnsAt OnOffByte atOnOff (now (rec .entry)) (now (rec .exit)) (λ r. withSettings r (withOnOff (r .settings) v)) ⌝ }
-{
-    rec[AT_ON_OFF] = v;
+    put_number(rec, at, p, 0, width_of(k));
 }
 
 pub fn set_input(rec: &mut [u8], channel: u8, v: u8)
@@ -73,23 +50,4 @@ pub fn switch_output(rec: &mut [u8], k: u8, v: u8)
     } else {
         rec[AT_OUTPUTS] &= 0xFF - mask;
     }
-}
-
-pub fn set_interval(rec: &mut [u8], v: u8)
-    requires { ⌜ SoundAt IntervalByte atInterval (now rec) ⌝ }
-    ensures { λ _. ⌜ TurnsAt IntervalByte atInterval (now (rec .entry)) (now (rec .exit)) (λ r. withSettings r (withInterval (r .settings) v)) ⌝ }
-{
-    rec[AT_INTERVAL] = v;
-}
-
-// At the place that the layout gives the filter word.
-pub fn set_filter(rec: &mut [u8], at: usize, p: &[u8])
-    requires { ⌜ SoundAt FilterWord at (now rec) ⌝ }
-    requires { ⌜ length (now p) ≡ 4 ⌝ }
-    ensures { λ _. ⌜ TurnsAt FilterWord at (now (rec .entry)) (now (rec .exit)) (λ r. withSettings r (withFilter (r .settings) (wordAt (now (p .entry)) 0))) ⌝ }
-{
-    rec[at] = p[0];
-    rec[at + 1] = p[1];
-    rec[at + 2] = p[2];
-    rec[at + 3] = p[3];
 }

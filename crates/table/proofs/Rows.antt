@@ -1,62 +1,16 @@
 -- What the code finds by an entry is what the rows say.
 use Prim.Native.Nat.{ℕ, _-_, _/_, _%_, _≤_, _<_}
-use mathlib.Core.Path.{_≡_, refl, sym, _∙_}
+use mathlib.Core.Path.{_≡_, refl}
 use mathlib.Core.Logic.{_⊎_, inl, inr, ⊎-elim}
 use mathlib.Core.Bool.{Bool, true, false}
-use mathlib.Core.List.{List, [], _∷_, _++_}
 use native.Mathlib.Omega.{arith}
 use borrow.Author.Tests.{lt-ltb, le-ltb, le-leb, lt-leb, eq-eqb, ne-eqb, ltb-true, ltb-false}
 use lib.Dec.{ltb, eqb}
-use Rattle.command.specs.declared.Listed.the-variants.{Built, NotBuilt}
 use Rattle.command.specs.declared.Numbered.the-variants.{AsCommand, AsNotBuilt, AsUnknown}
 use Rattle.command.specs.declared.Counted.the-variants.{Right, Wrong}
-use Rattle.command.specs.Tables.{CommandRow, bt121, amplifier, lookUp, Stands, listedOf, Span, exactly, countedIn}
+use Rattle.command.specs.Rows.{Span, exactly}
+use Rattle.command.specs.Tables.{countedIn}
 use Rattle.command.specs.Entries.{numberedBy, spanIn, unpacked}
-use Rattle.command.proofs.EntryLaws.{apart}
-
--- ---- the command of a built number
-
--- a number that is none of the rows', told as the code's match tells it
-abbrev pub Left : ℕ → Type 0 → List CommandRow → Type 0
-Left n P [] = P
-Left n P (x ∷ rows) = Left n (P × (n ≡ x .number → ⊥)) rows
-
-left-on : (n : ℕ) (P : Type 0) (rows more : List CommandRow) → Left n P rows → P × (lookUp n (rows ++ more) ≡ lookUp n more)
-left-on n P [] more h = (h, refl)
-left-on n P (x ∷ rows) more h = let w = left-on n (P × (n ≡ x .number → ⊥)) rows more h in (w .0 .0, rw (ne-eqb n (x .number) (w .0 .1)) (w .1))
-
--- rows of no command
-abbrev pub Unbuilts : List CommandRow → Type 0
-Unbuilts [] = Unit {0}
-Unbuilts (x ∷ rows) = (x .listed ≡ NotBuilt) × Unbuilts rows
-
-skip-row : (n : ℕ) (x : CommandRow) (rows : List CommandRow) → x .listed ≡ NotBuilt → (b : Bool) → eqb n (x .number) ≡ b → Stands (lookUp n (x ∷ rows)) → Stands (lookUp n rows)
-skip-row n x rows u true e w = let q : NotBuilt ≡ Built (w .0) = sym u ∙ (rw e at (w .1)) in apart cc
-skip-row n x rows u false e w = (w .0, rw e at (w .1))
-
-none-stands : (n : ℕ) (rows : List CommandRow) → Unbuilts rows → ¬ Stands (lookUp n rows)
-none-stands n [] u w = let e = w .1 in apart cc
-none-stands n (x ∷ rows) u w = none-stands n rows (u .1) (skip-row n x rows (u .0) (eqb n (x .number)) refl w)
-
--- the last command is what is left for a built number
-pub last-left : (n : ℕ) (rows rest : List CommandRow) (x : CommandRow) → Left n (Unit {0}) rows → Unbuilts rest → Stands (lookUp n (rows ++ x ∷ rest)) → lookUp n (rows ++ x ∷ rest) ≡ x .listed
-last-left n rows rest x h u w = on ∙ by (eqb n (x .number)) refl where
-  on : lookUp n (rows ++ x ∷ rest) ≡ lookUp n (x ∷ rest)
-  on = left-on n (Unit {0}) rows (x ∷ rest) h .1
-
-  by : (b : Bool) → eqb n (x .number) ≡ b → lookUp n (x ∷ rest) ≡ x .listed
-  by true e = rw e refl
-  by false e = absurd (none-stands n rest u (w .0, (rw e at (sym on ∙ w .1))))
-
--- the head chooses the table
-module _ (head number : ℕ) where
-  pub in-bt121 : eqb (head / 16) 0xA ≡ true → listedOf head number ≡ lookUp number bt121
-  unfolding listedOf
-  in-bt121 h = rw h refl
-
-  pub in-amplifier : eqb (head / 16) 0xA ≡ false → listedOf head number ≡ lookUp number amplifier
-  unfolding listedOf
-  in-amplifier h = rw h refl
 
 -- ---- whether a number is that of a command
 
@@ -98,7 +52,7 @@ module _ (e n : ℕ) where
 
   -- exactly so many
   module _ (exact : span < 5) where
-    pub count-exact : n ≡ span → Right ≡ countedIn (spanIn e) n
+    count-exact : n ≡ span → Right ≡ countedIn (spanIn e) n
     count-exact h = rw (lt-ltb span 5 exact) (enough (exactly span) n (omega arith) (omega arith))
 
     pub count-other : (n ≡ span → ⊥) → Wrong ≡ countedIn (spanIn e) n
@@ -117,3 +71,11 @@ module _ (e n : ℕ) where
 
     pub count-right : span - 5 ≤ n → n ≤ 15 → Right ≡ countedIn (spanIn e) n
     count-right l h = rw (le-ltb span 5 ranged) (enough from n l h)
+
+  -- the number that the bits say is right either way
+  pub count-same : n ≡ span → Right ≡ countedIn (spanIn e) n
+  count-same h = by (ltb span 5) refl
+    where
+      by : (t : Bool) → ltb span 5 ≡ t → Right ≡ countedIn (spanIn e) n
+      by true q = count-exact (ltb-true span 5 q) h
+      by false q = count-right (ltb-false span 5 q) (omega arith) (omega arith)

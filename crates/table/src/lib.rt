@@ -1,12 +1,12 @@
-// What the entry of a number decides: whether it is built, how many parameters it takes; which command a built number is.
+// What the entry of a number decides: whether it is built, how many parameters it takes; which setting a number reads or sets.
 ghost use mathlib.Core.Path.{_≡_};
+ghost use mathlib.Core.Bool.{true};
 ghost use Prim.Native.Nat.{_/_, _<_};
 ghost use lib.Dec.{eqb};
-ghost use Rattle.command.specs.declared.Listed.the-variants.{Built};
-ghost use Rattle.command.specs.Tables.{bt121, amplifier, lookUp, Stands, listedOf, countedIn};
-ghost use Rattle.command.specs.Entries.{numberedBy, spanIn, unpacked, rowsSay, placeOf, tableSize, entries};
+ghost use Rattle.command.specs.Tables.{countedIn};
+ghost use Rattle.command.specs.Entries.{numberedBy, spanIn, unpacked, isTidy, rowsSay, placeOf, tableSize, entries};
 ghost use Rattle.command.specs.Judge.{statusOf};
-use command::Command;
+ghost use Rattle.table.specs.Touched.{Touched};
 use command::Counted;
 use command::Numbered;
 use command::Refusal;
@@ -16,6 +16,7 @@ use entries::OPENED;
 use entries::SPANS;
 use entries::TABLE_SIZE;
 use entries::UNKNOWN;
+use record::Setting;
 
 pub mod entries;
 
@@ -38,7 +39,7 @@ fn place_of(head: u8, number: u8) -> usize
 // The entry of a number under a head.
 pub fn entry_of(table: &[u8; TABLE_SIZE], head: u8, number: u8) -> u8
     requires { ⌜ now table ≡ entries ⌝ }
-    ensures { λ e. ⌜ unpacked e ≡ rowsSay head number ⌝ }
+    ensures { λ e. ⌜ (unpacked e ≡ rowsSay head number) × (isTidy e ≡ true) ⌝ }
 {
     let i = place_of(head, number);
     table[i]
@@ -68,10 +69,11 @@ pub fn check_count(entry: u8, n: usize) -> Counted
     ensures { λ r. ⌜ r ≡ countedIn (spanIn entry) n ⌝ }
 {
     let span = (entry % SPANS) as usize;
+    // also where it says so many to 15: what says so is itself among them
+    if n == span {
+        return Counted::Right;
+    }
     if span < FROM {
-        if n == span {
-            return Counted::Right;
-        }
         return Counted::Wrong;
     }
     if n < span - FROM {
@@ -83,59 +85,24 @@ pub fn check_count(entry: u8, n: usize) -> Counted
     Counted::Right
 }
 
-fn bt121_command(number: u8) -> Command
-    requires { ⌜ Stands (lookUp number bt121) ⌝ }
-    ensures { λ r. ⌜ lookUp number bt121 ≡ Built r ⌝ }
+// Which setting a number reads or sets, of those that are one number; asked of such a number only, so the last is what is left.
+pub fn setting_of(number: u8) -> Setting
+    ensures { λ r. ⌜ Touched number r ⌝ }
 {
     match number {
-        0xE0 => Command::Open,
-        0xE1 => Command::Close,
-        0xE2 => Command::ReadPower,
-        0xE3 => Command::SetPower,
-        0xE4 => Command::ReadStep,
-        0xE5 => Command::SetStep,
-        0xE6 => Command::ReadMode,
-        0xE7 => Command::SetMode,
-        0xE8 => Command::ReadName,
-        0xE9 => Command::SetName,
-        0xED => Command::ReadOnOff,
-        0xEE => Command::SetOnOff,
-        0xEB => Command::SetInput,
-        0xF0 => Command::ReadInput,
-        0xF1 => Command::SwitchOutput,
-        0xF2 => Command::SetInterval,
-        // F3
-        _ => Command::ReadInterval,
+        0xE2 => Setting::Power,
+        0xE3 => Setting::Power,
+        0xE4 => Setting::Step,
+        0xE5 => Setting::Step,
+        0xE6 => Setting::Mode,
+        0xE7 => Setting::Mode,
+        0xED => Setting::OnOff,
+        0xEE => Setting::OnOff,
+        0xF3 => Setting::Interval,
+        0xF2 => Setting::Interval,
+        // 51, 52
+        _ => Setting::Filter,
     }
-}
-
-fn amplifier_command(number: u8) -> Command
-    requires { ⌜ Stands (lookUp number amplifier) ⌝ }
-    ensures { λ r. ⌜ lookUp number amplifier ≡ Built r ⌝ }
-{
-    match number {
-        0x19 => Command::Unlock,
-        0x1A => Command::ReadLock,
-        0x1B => Command::ReadModel,
-        0x1C => Command::SetModel,
-        0x23 => Command::StopSending,
-        0x24 => Command::StartSending,
-        0x51 => Command::ReadFilter,
-        0x52 => Command::SetFilter,
-        // 53
-        _ => Command::ReadPair,
-    }
-}
-
-// Which command a built number is.
-pub fn command_of(head: u8, number: u8) -> Command
-    requires { ⌜ Stands (listedOf head number) ⌝ }
-    ensures { λ r. ⌜ listedOf head number ≡ Built r ⌝ }
-{
-    if is_bt121(head) {
-        return bt121_command(number);
-    }
-    amplifier_command(number)
 }
 
 pub fn status_of(why: Refusal) -> u8

@@ -1,13 +1,14 @@
 -- Writing into a buffer: nothing, one byte more, a part behind a part, single stores.
 use Prim.Native.Nat.{ℕ, zero, suc, _+_, _≤_, _<_}
 use mathlib.Core.Path.{_≡_, refl, sym, ap, _∙_}
+use mathlib.Core.Logic.{⊎-elim}
 use mathlib.Core.List.{List, [], _∷_, _++_, append-assoc}
 use native.Mathlib.Nat.{zero-add, add-zero, add-assoc}
 use native.Mathlib.Numerals.{add-one, towards-suc}
 use native.Mathlib.Omega.{arith}
 use lib.ListN.{length, getD, take, drop, set, replicate, length-append, length-drop, length-replicate, take-append-drop}
 use lib.Seq.{sets, sets-eq, drop-cons, take-suc, take-at, take-set-lt, drop-set-lt, drop-append-add, drop-drop, set-at, set-append-left, length-take-le}
-use Rattle.wire.specs.Numbers.{put}
+use Rattle.wire.specs.Numbers.{Narrow, bytesAt, put}
 
 pub put-nil : (d : List ℕ) (at : ℕ) → put d at [] ≡ d
 unfolding put
@@ -85,3 +86,23 @@ unfolding put
 put-behind d at s i v l h =
     let n : i < length (take at d) = rw (length-take-le at d h) l in
     rw (take-set-lt at d i v l, drop-set-lt (at + length s) d i v (omega arith)) (set-append-left (take at d) (s ++ drop (at + length s) d) i v n)
+
+-- the bytes of a number, by how many they are
+module _ (n : ℕ) (w : Narrow n) where
+  pub narrow : (1 ≤ n) × (n ≤ 4)
+  narrow = ⊎-elim (λ e. (omega arith, omega arith)) (λ v. ⊎-elim (λ e. (omega arith, omega arith)) (λ e. (omega arith, omega arith)) v) w
+
+  narrow-two : 2 ≤ n → n < 4 → n ≡ 2
+  narrow-two l h = ⊎-elim (λ e. omega arith) (λ v. ⊎-elim (λ e. e) (λ e. omega arith) v) w
+
+  module _ (d s : List ℕ) (at from : ℕ) (h : at + n ≤ length d) where
+    pub number-one : n < 2 → set d at (getD s from 0) ≡ put d at (bytesAt n s from)
+    number-one k = let e : n ≡ 1 = omega (arith, narrow) in rw e (put-one d at (getD s from 0) (omega arith))
+
+    pub number-two : 2 ≤ n → n < 4 → set (set d at (getD s from 0)) (at + 1) (getD s (from + 1) 0) ≡ put d at (bytesAt n s from)
+    number-two l k = let e = narrow-two l k in rw e (put-two d at (getD s from 0) (getD s (from + 1) 0) (omega arith) ∙ simp towards-suc)
+
+    pub number-four : 4 ≤ n → set (set (set (set d at (getD s from 0)) (at + 1) (getD s (from + 1) 0)) (at + 2) (getD s (from + 2) 0)) (at + 3) (getD s (from + 3) 0) ≡ put d at (bytesAt n s from)
+    number-four l =
+        let e : n ≡ 4 = omega (arith, narrow) in
+        rw e (put-four d at (getD s from 0) (getD s (from + 1) 0) (getD s (from + 2) 0) (getD s (from + 3) 0) (omega arith) ∙ simp towards-suc)

@@ -1,5 +1,7 @@
 -- Numbers as the protocol writes them: high byte first.
 use Prim.Native.Nat.{ℕ, zero, suc, _+_, _-_, _*_, _/_, _%_, _<_}
+use mathlib.Core.Path.{_≡_}
+use mathlib.Core.Logic.{_⊎_}
 use mathlib.Core.Bool.{cond}
 use mathlib.Core.List.{List, [], _∷_, _++_}
 use lib.ListN.{length, getD, take, drop}
@@ -30,6 +32,10 @@ bytes2 w = w / 256 % 256 ∷ w % 256 ∷ []
 
 abbrev pub bytes4 : ℕ → List ℕ
 bytes4 w = w / 16777216 % 256 ∷ w / 65536 % 256 ∷ w / 256 % 256 ∷ w % 256 ∷ []
+
+-- the bytes of a number: one, two or four
+abbrev pub Narrow : ℕ → Type 0
+Narrow n = (n ≡ 1) ⊎ ((n ≡ 2) ⊎ (n ≡ 4))
 
 -- n elements of s from a place on, zeros past its end
 abbrev pub bytesAt : ℕ → List ℕ → ℕ → List ℕ

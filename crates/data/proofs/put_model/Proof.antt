@@ -10,17 +10,17 @@ add-most c = search needs
 first-zero-requires : tie.Need-first-zero-requires
 first-zero-requires c κs = search needs
 
-sub-put-in : tie.Need-sub-put-in
-sub-put-in c = search needs
+sub-put-few : tie.Need-sub-put-few
+sub-put-few c = search needs
 
-part-put-in-start : tie.Need-part-put-in-start
-part-put-in-start c = search needs
+part-put-few-start : tie.Need-part-put-few-start
+part-put-few-start c = search needs
 
-part-put-in-end : tie.Need-part-put-in-end
-part-put-in-end c = search needs
+part-put-few-end : tie.Need-part-put-few-end
+part-put-few-end c = search needs
 
-put-in-requires : tie.Need-put-in-requires
-put-in-requires c κs = search needs
+put-few-requires : tie.Need-put-few-requires
+put-few-requires c κs = search needs
 
 slice-write-out : tie.Need-slice-write-out
 slice-write-out c = search needs
@@ -39,7 +39,7 @@ returns c =
     let z = c .before .before .before .before .before .before .before .before .before in
     let a = z .args in
     let e = c .before .before .before .before .before .before .first-zero in
-    let i = c .before .before .before .put-in in
+    let i = c .before .before .before .put-few in
     answers-cut (a .rec .now) (a .from) (z .pre .0) (e .result) (e .ensures .0) (a .out .now) (a .at) (z .pre .1) (i .last .0) (i .ensures .1) (c .if1 .taken) (i .result) (i .ensures .0)
 
 same-length-2 : tie.Need-same-length-2
@@ -50,7 +50,7 @@ returns-2 c =
     let z = c .before .before .before .before .before .before .before .before .before in
     let a = z .args in
     let e = c .before .before .before .before .before .before .first-zero in
-    let i = c .before .before .before .put-in in
+    let i = c .before .before .before .put-few in
     answers-whole (a .rec .now) (a .from) (z .pre .0) (e .result) (e .ensures .0) (a .out .now) (a .at) (z .pre .1) (i .last .0) (i .ensures .1) (c .if1 .left) (e .ensures .1)
 
 pub put-model-spec : {M : Type 1} → statement M
@@ -59,10 +59,10 @@ put-model-spec =
     (tie.spec
     add-most
     first-zero-requires
-    sub-put-in
-    part-put-in-start
-    part-put-in-end
-    put-in-requires
+    sub-put-few
+    part-put-few-start
+    part-put-few-end
+    put-few-requires
     slice-write-out
     sub-result
     add-result

@@ -12,20 +12,20 @@ shared-slice-read-n c = search needs
 cast-n : tie.Need-cast-n
 cast-n c = search needs
 
-add-put-in : tie.Need-add-put-in
-add-put-in c = search needs
+add-put-few : tie.Need-add-put-few
+add-put-few c = search needs
 
-sub-put-in : tie.Need-sub-put-in
-sub-put-in c = search needs
+sub-put-few : tie.Need-sub-put-few
+sub-put-few c = search needs
 
-part-put-in-start : tie.Need-part-put-in-start
-part-put-in-start c = search needs
+part-put-few-start : tie.Need-part-put-few-start
+part-put-few-start c = search needs
 
-part-put-in-end : tie.Need-part-put-in-end
-part-put-in-end c = search needs
+part-put-few-end : tie.Need-part-put-few-end
+part-put-few-end c = search needs
 
-put-in-requires : tie.Need-put-in-requires
-put-in-requires c κs = search needs
+put-few-requires : tie.Need-put-few-requires
+put-few-requires c κs = search needs
 
 same-length : tie.Need-same-length
 same-length c = search needs
@@ -34,7 +34,7 @@ returns : tie.Need-returns
 returns c =
     let z = c .before .before .before .before .before .before .before .before in
     let a = z .args in
-    let i = c .before .before .put-in in
+    let i = c .before .before .put-few in
     answers-name (a .out .now) (a .at) (z .pre .0 .1) (a .rec .now) (getD (a .rec .now) atNameLength 0) (i .last .0) (z .pre .0 .0) (z .pre .1) (i .ensures .1)
 
 pub put-name-spec : {M : Type 1} → statement M
@@ -43,10 +43,10 @@ put-name-spec =
     (tie.spec
     shared-slice-read-n
     cast-n
-    add-put-in
-    sub-put-in
-    part-put-in-start
-    part-put-in-end
-    put-in-requires
+    add-put-few
+    sub-put-few
+    part-put-few-start
+    part-put-few-end
+    put-few-requires
     same-length
     returns)
