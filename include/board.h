@@ -28,8 +28,8 @@ extern "C" {
 /* This header's version; the packages in pkgconfig/ and cmake/ have the same. */
 #define BOARD_VERSION_MAJOR 1
 #define BOARD_VERSION_MINOR 0
-#define BOARD_VERSION_PATCH 1
-#define BOARD_VERSION "1.0.1"
+#define BOARD_VERSION_PATCH 2
+#define BOARD_VERSION "1.0.2"
 
 /*
  * An archive with another record than this header's refuses board_factory with BOARD_BAD_RECORD, or leaves
@@ -163,7 +163,7 @@ struct board_answer board_samples(uint8_t *record, size_t record_len, const uint
  * interrupt; two calls on the same record, or with the same output, may not.
  *
  * The archive is x86-64 code for the System V calling convention (SSE2, position independent). It calls
- * memcpy and memset and nothing else, takes buffers at any alignment, and was measured to use at most 928
+ * memcpy and memset and nothing else, takes buffers at any alignment, and was measured to use at most 832
  * bytes of stack (docs/PERFORMANCE.md; reserve 1,024). Floats are compared in the processor's usual mode:
  * a program linked with -ffast-math takes the tiniest values for zero, and pairs then differ from the proof.
  *
