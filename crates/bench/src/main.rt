@@ -12,7 +12,7 @@ fn answer_some(rec: &mut [u8], input: &mut [u8], out: &mut [u8]) -> bool {
     if n == 0 {
         return false;
     }
-    let answer = board::bytes::board_bytes(rec, &input[..n], out);
+    let answer = board::board_bytes(rec, &input[..n], out);
     let written = answer.written as usize;
     if out.len() < written {
         return false;
@@ -32,6 +32,6 @@ fn main() {
     let mut rec = [0u8; RECORD_SIZE];
     let mut input = [0u8; INPUT_MOST];
     let mut out = [0u8; ROOM_MOST];
-    board::factory::board_factory(&mut rec);
+    board::board_factory(&mut rec);
     answer_all(&mut rec, &mut input, &mut out);
 }

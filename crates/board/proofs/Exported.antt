@@ -9,14 +9,14 @@ use borrow.Fn.Kinds.{PK, RK, In, Out, Dens, resT, endedOf}
 use Rattle.call.specs.Outcome.{Outcome, Allows}
 use Rattle.call.proofs.InOrder.{allowed-is}
 use Rattle.call.specs.Calls.{factoryCall, powerOnCall, bytesCall, samplesCall}
-use Rattle.board.proofs.factory.board_factory.Reads as factory
-use Rattle.board.proofs.factory.board_factory.Kinds as factory-kinds
-use Rattle.board.proofs.power_on.board_power_on.Reads as power-on
-use Rattle.board.proofs.power_on.board_power_on.Kinds as power-on-kinds
-use Rattle.board.proofs.bytes.board_bytes.Reads as bytes
-use Rattle.board.proofs.bytes.board_bytes.Kinds as bytes-kinds
-use Rattle.board.proofs.samples.board_samples.Reads as samples
-use Rattle.board.proofs.samples.board_samples.Kinds as samples-kinds
+use Rattle.board.proofs.board_factory.Reads as factory
+use Rattle.board.proofs.board_factory.Kinds as factory-kinds
+use Rattle.board.proofs.board_power_on.Reads as power-on
+use Rattle.board.proofs.board_power_on.Kinds as power-on-kinds
+use Rattle.board.proofs.board_bytes.Reads as bytes
+use Rattle.board.proofs.board_bytes.Kinds as bytes-kinds
+use Rattle.board.proofs.board_samples.Reads as samples
+use Rattle.board.proofs.board_samples.Kinds as samples-kinds
 
 -- a contract over n lifetimes, the parameters ps and the result q; `outcome` is what the call is to leave, `seen` what its caller finds
 module _ {n : ℕ} (ps : List (PK n)) (q : RK n) where

@@ -1,2 +1,1 @@
-pub mod BytesEnds
 pub mod Exported
