@@ -1,6 +1,4 @@
-// Code over bytes: numbers, zeros, heads, writing, replies.
+// Code over bytes: heads, writing, replies.
 pub mod heads;
-pub mod numbers;
 pub mod reply;
 pub mod write;
-pub mod zeros;

@@ -41,8 +41,8 @@ use Rattle.command.proofs.Refused.{verdict-is, Checks, checks, verdict, by-is, 
 use Rattle.command.proofs.Keep.{by-in, wrong-code}
 use Rattle.judge.specs.Checks.{judgedCount, judgedAccess, judgedBy}
 use Rattle.data.specs.PutsData.{PutsData}
-use Rattle.effect.specs.declared.Done.the-variants.{Told, Missed}
-use Rattle.effect.specs.Done.{Calls, Carried}
+use Rattle.ranged.specs.declared.Done.the-variants.{Told, Missed}
+use Rattle.effect.specs.Carried.{Calls, Carried}
 use Rattle.carry.specs.declared.Said.{Said}
 use Rattle.carry.specs.declared.Said.the-variants.{Answered, Denied}
 use Rattle.carry.specs.Carry.{Countable, statusIn, countIn, Acts, Carries}
@@ -175,7 +175,7 @@ part f = take (length f - 1 - 3) (drop 3 f)
 part-is : (f : List ℕ) → part f ≡ paramsOf f
 part-is f = let e : length f - 1 - 3 ≡ length f - 4 = omega arith in rw e refl
 
-module _ (r : Record) (f before : List ℕ) (at : ℕ) (a : Said) (kept mid : List ℕ) (acts : Acts r (headOf f) (numberOf f) (part f) before at a kept mid) (room : at + frameMost ≤ length before) where
+module _ (r : Record) (f : List ℕ) {before : List ℕ} {at : ℕ} {a : Said} {kept mid : List ℕ} (acts : Acts r (headOf f) (numberOf f) (part f) before at a kept mid) (room : at + frameMost ≤ length before) where
   kind-is : stepOf r f .reply .kind ≡ kindOf (headOf f)
   kind-is = ap (λ (y : Step). y .reply .kind) (step-is r f) ∙ by (verdict r f)
     where
@@ -186,16 +186,17 @@ module _ (r : Record) (f before : List ℕ) (at : ℕ) (a : Said) (kept mid : Li
   step-as : stepOf r f ≡ stepBy r (headOf f) (numberOf f) (part f)
   step-as = step-by r f ∙ rw (part-is f) refl
 
-  pub carries : (end status n : ℕ) (after : List ℕ) → status ≡ statusIn a → n ≡ countIn a → end ≡ at + 4 + n → after ≡ around mid at (getD f 1 0) status n → Carries r f before at end kept after
-  carries end status n after st m q o =
+  -- the reply closed with the status and the count of what was said
+  pub carries : {status n end : ℕ} {after : List ℕ} {said : Said} → a ≡ said → status ≡ statusIn said → n ≡ countIn said → (end ≡ at + 4 + n) × (after ≡ around mid at (getD f 1 0) status n) → Carries r f before at end kept after
+  carries {status} {n} e st m q =
       let x : List ℕ = stepOf r f .reply .body in
-      let d : PutsData before (at + 3) x n mid = rw (m, step-as) (acts .told) in
-      let same : stepOf r f .reply .status ≡ status = ap (λ (y : Step). y .reply .status) step-as ∙ acts .status ∙ sym st in
-      let said : stepOf r f .reply ≡ record { kind = kindOf (headOf f); status = status; body = x } = λ i. record { kind = kind-is i; status = same i; body = x } in
+      let d : PutsData before (at + 3) x n mid = rw (m, ← e, step-as) (acts .told) in
+      let same : stepOf r f .reply .status ≡ status = ap (λ (y : Step). y .reply .status) step-as ∙ acts .status ∙ ap statusIn e ∙ sym st in
+      let reply : stepOf r f .reply ≡ record { kind = kindOf (headOf f); status = status; body = x } = λ i. record { kind = kind-is i; status = same i; body = x } in
       let long : length (replyBytes (stepOf r f .reply)) ≡ 4 + n = length-reply (stepOf r f .reply) ∙ ap (λ (k : ℕ). 4 + k) (sym (d .0)) in
       record {
         held = rw step-as (acts .held);
-        ends = rw long (omega (arith, q));
-        small = omega (arith, q, d .1);
-        bytes = o ∙ closed-reply before at (getD f 1 0) status n x mid (sym (d .0)) (omega (arith, d .1)) (d .2) ∙ ap (λ (y : Reply). put before at (replyBytes y)) (sym said);
+        ends = rw long (omega (arith, q .0));
+        small = omega (arith, q .0, d .1);
+        bytes = q .1 ∙ closed-reply before at (getD f 1 0) status n x mid (sym (d .0)) (omega (arith, d .1)) (d .2) ∙ ap (λ (y : Reply). put before at (replyBytes y)) (sym reply);
       }

@@ -13,10 +13,10 @@ ghost use Rattle.carry.specs.Carry.{Countable, Entered, ActsBy, Carries}
 use buffer::reply::close_reply;
 use command::Judged;
 use command::Refusal;
-use effect::Done;
 use effect::carry_out;
 use flags::count_try;
 use judge::judge;
+use ranged::Done;
 use table::entries::TABLE_SIZE;
 use table::entry_of;
 use table::status_of;
@@ -87,7 +87,13 @@ pub fn carry(
     let entry = entry_of(table, head, number);
     let said = act(entry, rec, number, p, out, at);
     match said {
-        Said::Answered(n) => close_reply(out, at, head, 0, n),
+        Said::Answered(n) => {
+            // Most replies have no data: the compiler makes a shorter path for them.
+            if n == 0 {
+                return close_reply(out, at, head, 0, 0);
+            }
+            close_reply(out, at, head, 0, n)
+        }
         Said::Denied(why) => close_reply(out, at, head, status_of(why), 0),
     }
 }

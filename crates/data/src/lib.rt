@@ -11,10 +11,10 @@ ghost use Rattle.record.specs.Layout.{nameRoom, modelRoom, atInputs, atNameLeng
 ghost use Rattle.record.specs.Settings.{settingPlace, settingWidth};
 ghost use Rattle.command.specs.Rows.{modelData};
 ghost use Rattle.data.specs.PutsData.{PutsData};
-use buffer::numbers::put_number;
-use buffer::zeros::first_zero;
 use limits::place_of;
 use limits::width_of;
+use numbers::put_number;
+use numbers::zeros::first_zero;
 use record::Setting;
 use record::places::AT_NAME;
 use record::places::AT_NAME_LENGTH;

@@ -5,30 +5,25 @@ use mathlib.Core.List.{List, [], _∷_}
 use native.Mathlib.Nat.{le-antisymm}
 use native.Mathlib.Omega.{arith}
 use lib.ListN.{length}
-use Rattle.wire.specs.Sizes.{frameMost, dataMost}
-use Rattle.wire.specs.declared.Range.{Range}
-use Rattle.wire.specs.declared.Range.the-variants.{Fits}
 use Rattle.wire.proofs.PutLaws.{narrow, put-nil}
 use Rattle.record.specs.declared.Setting.{Setting}
 use Rattle.record.specs.Record.{Record}
 use Rattle.record.specs.Layout.{bytesOf, recordOf}
 use Rattle.record.specs.Settings.{settingWidth}
-use Rattle.record.specs.InPlace.{Turns}
 use Rattle.record.proofs.SettingLaws.{widths}
 use Rattle.command.specs.declared.Command.{Command}
 use Rattle.command.specs.declared.Command.the-variants.{Open, Close, Read, Set, ReadName, SetName, SetInput, ReadInput, SwitchOutput, Unlock, ReadLock, ReadModel, SetModel, StopSending, StartSending, ReadPair}
 use Rattle.command.specs.declared.Listed.the-variants.{Built}
-use Rattle.command.specs.declared.Counted.the-variants.{Right, Wrong}
+use Rattle.command.specs.declared.Counted.the-variants.{Right}
 use Rattle.command.specs.Rows.{numbersOf, rowOf}
-use Rattle.command.specs.Tables.{namedBy, spanOf, countedOf, rangeOf}
+use Rattle.command.specs.Tables.{namedBy, spanOf, countedOf}
 use Rattle.command.specs.Effects.{effectOf, dataOf}
-use Rattle.command.proofs.EntryLaws.{apart}
 use Rattle.command.proofs.Named.{row-number}
 use Rattle.command.proofs.Keep.{counted-span}
-use Rattle.data.specs.PutsData.{PutsData}
-use Rattle.effect.specs.declared.Done.{Done}
-use Rattle.effect.specs.declared.Done.the-variants.{Told, Missed}
-use Rattle.effect.specs.Done.{Calls, Does, Stores, Tells, Carried, IsRead, IsSet}
+use Rattle.ranged.specs.declared.Done.{Done}
+use Rattle.ranged.specs.declared.Done.the-variants.{Told, Missed}
+use Rattle.ranged.specs.Done.{Stores, Tells}
+use Rattle.effect.specs.Carried.{Calls, Does, Carried}
 
 -- ---- a number has one command
 

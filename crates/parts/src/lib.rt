@@ -11,7 +11,7 @@ ghost use Rattle.wire.specs.Zeros.{beforeZero};
 ghost use Rattle.record.specs.Record.{withName, withSettings, withModel, withPending};
 ghost use Rattle.record.specs.Layout.{NamePart, ModelPart, nameRoom, modelRoom, atNameLength};
 ghost use Rattle.record.specs.InPlace.{SoundAt, SoundPending, TurnsAt, TurnsPending};
-use buffer::zeros::first_zero;
+use numbers::zeros::first_zero;
 use record::places::AT_MODEL;
 use record::places::AT_NAME;
 use record::places::AT_NAME_LENGTH;

@@ -13,7 +13,7 @@ ghost use Rattle.record.specs.InPlace.{Sound};
 ghost use Rattle.record.specs.Reading.{readingOf};
 ghost use Rattle.reading.specs.Decoded.{decodedAt, There, Numbers, AllNumbers, seenPeak, afterReading, peakBytes, putBack};
 use crate::Decoded;
-use buffer::numbers::word_at;
+use numbers::word_at;
 use peak::Peak;
 use peak::bits_of;
 use peak::finite_float;

@@ -28,6 +28,9 @@ module _ (r : Record) (s : List ℕ) (h : Holds r s) where
   pub turn-holds : (t : List ℕ) (f : Record → Record) → Turns s t f → InRange (f r) → Holds (f r) t
   turn-holds t f g i = record { fit = i; same = g r (h .fit) (h .same) }
 
+pub sound-long : (s : List ℕ) → Sound s → length s ≡ recordSize
+sound-long s h = ap length (h .same) ∙ long (recordOf s)
+
 -- ---- in any layout that has a part at a place
 
 -- a store at the place of a part, as what it promises in every such layout

@@ -7,8 +7,8 @@ ghost use Rattle.record.specs.Record.{withOutput, withInputs, withSettings, wit
 ghost use Rattle.record.specs.Layout.{InputBytes, OutputByte, atInputs, atOutputs};
 ghost use Rattle.record.specs.Settings.{sheetOf, settingWidth};
 ghost use Rattle.record.specs.InPlace.{SoundAt, TurnsAt};
-use buffer::numbers::put_number;
 use limits::width_of;
+use numbers::put_number;
 use record::Setting;
 use record::places::AT_OUTPUTS;
 use record::places::BEFORE_INPUTS;

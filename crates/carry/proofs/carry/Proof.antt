@@ -1,19 +1,23 @@
 -- `carry`: a whole frame leaves the record and the reply of its step.
 use native.Mathlib.Omega.{arith}
-use mathlib.Core.Path.{_≡_, refl, sym, ap, _∙_}
+use mathlib.Core.Path.{refl, sym}
 use lib.ListN.{getD}
 use Rattle.wire.specs.Serial.{headOf, numberOf}
 use Rattle.record.specs.Layout.{recordOf}
-use Rattle.carry.specs.Carry.{statusIn, countIn, Acts}
+use Rattle.carry.specs.Carry.{Acts}
 use Rattle.carry.proofs.Acted.{part, carries}
 use borrow.Author.Needs.{needs}
 use Rattle.carry.proofs.carry.Statement.{statement}
 use Rattle.carry.proofs.carry.Tie as tie
 
 -- what the act left, under the frame's head
-acted : (a : tie.After-act) → let z = a .before .before .before .before .before .before .before .before .before .before .args in
-    Acts (recordOf (z .rec .now)) (headOf (z .frame .now)) (numberOf (z .frame .now)) (part (z .frame .now)) (z .out .now) (z .at) (a .act .result) (a .act .last .1 .0) (a .act .last .1 .1 .1 .1 .0)
-acted a = let f = a .before .before .before .before .before .before .before .before .before .before .args .frame .now in a .act .ensures (getD f 1 0) (a .before .before .before .entry-of .ensures .0)
+module _ (a : tie.After-act) where
+  abbrev start : tie.Start
+  start = a .before .before .before .before .before .before .before .before .before .before
+
+  acted : let z = start .args in
+      Acts (recordOf (z .rec .now)) (headOf (z .frame .now)) (numberOf (z .frame .now)) (part (z .frame .now)) (z .out .now) (z .at) (a .act .result) (a .act .last .1 .0) (a .act .last .1 .1 .1 .1 .0)
+  acted = a .act .ensures (getD (start .args .frame .now) 1 0) (a .before .before .before .entry-of .ensures .0)
 
 sub-end : tie.Need-sub-end
 sub-end c = search needs
@@ -46,21 +50,7 @@ enum-known-said : tie.Need-enum-known-said
 enum-known-said c = search needs
 
 close-reply-requires : tie.Need-close-reply-requires
-close-reply-requires c κs =
-    let a = c .before .before .before .before .before .before .before .before in
-    let z = c .before .before .before .before .before .before .before .before .before .before .before .before .before .before .before .before .before .before in
-    let n = ap countIn (c .before .before .said .given .1) in
-    let few = acted a .told .1 in
-    (z .pre .1 .1 .0 .1, (omega (arith, few, n), omega (arith, few, n, a .act .kept, z .pre .1 .1 .1)))
-
-enum-known-said-2 : tie.Need-enum-known-said-2
-enum-known-said-2 c = search needs
-
-status-of-requires : tie.Need-status-of-requires
-status-of-requires c κs = search needs
-
-close-reply-requires-2 : tie.Need-close-reply-requires-2
-close-reply-requires-2 c κs = search needs
+close-reply-requires c κs = search needs
 
 same-length : tie.Need-same-length
 same-length c = search needs
@@ -69,11 +59,22 @@ same-length-2 : tie.Need-same-length-2
 same-length-2 c = search needs
 
 returns : tie.Need-returns
-returns c =
-    let a = c .before .before .before .before .before .before .before .before .before .before .before in
-    let z = c .before .before .before .before .before .before .before .before .before .before .before .before .before .before .before .before .before .before .before .before .before in
-    let told = c .before .before .before .before .before .said .given .1 in
-    carries (recordOf (z .args .rec .now)) (z .args .frame .now) (z .args .out .now) (z .args .at) (a .act .result) _ _ (acted a) (z .pre .1 .1 .1) _ _ _ _ (sym (ap statusIn told)) (sym (ap countIn told)) (c .before .before .close-reply .ensures .0) (c .before .before .close-reply .ensures .1)
+returns c = let a = c .before .before .before .before .before .before .before .before .before .before .before .before in carries _ _ (acted a) (start a .pre .1 .1 .1) (c .before .before .before .before .before .before .said .given .1) refl (sym (c .before .before .before .before .if1 .taken)) (c .before .before .close-reply .ensures)
+
+close-reply-requires-2 : tie.Need-close-reply-requires-2
+close-reply-requires-2 c κs =
+    let a = c .before .before .before .before .before .before .before .before .before in
+    let few = rw (c .before .before .before .said .given .1) at (acted a .told .1) in
+    (start a .pre .1 .1 .0 .1, (few, omega (arith, few, a .act .kept, start a .pre .1 .1 .1)))
+
+enum-known-said-2 : tie.Need-enum-known-said-2
+enum-known-said-2 c = search needs
+
+status-of-requires : tie.Need-status-of-requires
+status-of-requires c κs = search needs
+
+close-reply-requires-3 : tie.Need-close-reply-requires-3
+close-reply-requires-3 c κs = search needs
 
 same-length-3 : tie.Need-same-length-3
 same-length-3 c = search needs
@@ -82,11 +83,16 @@ same-length-4 : tie.Need-same-length-4
 same-length-4 c = search needs
 
 returns-2 : tie.Need-returns-2
-returns-2 c =
-    let a = c .before .before .before .before .before .before .before .before .before .before .before .before in
-    let z = c .before .before .before .before .before .before .before .before .before .before .before .before .before .before .before .before .before .before .before .before .before .before in
-    let told = c .before .before .before .before .before .before .said2 .given .1 in
-    carries (recordOf (z .args .rec .now)) (z .args .frame .now) (z .args .out .now) (z .args .at) (a .act .result) _ _ (acted a) (z .pre .1 .1 .1) _ _ _ _ (c .before .before .before .status-of .ensures ∙ sym (ap statusIn told)) (sym (ap countIn told)) (c .before .before .close-reply2 .ensures .0) (c .before .before .close-reply2 .ensures .1)
+returns-2 c = let a = c .before .before .before .before .before .before .before .before .before .before .before .before in carries _ _ (acted a) (start a .pre .1 .1 .1) (c .before .before .before .before .before .before .said .given .1) refl refl (c .before .before .close-reply2 .ensures)
+
+same-length-5 : tie.Need-same-length-5
+same-length-5 c = search needs
+
+same-length-6 : tie.Need-same-length-6
+same-length-6 c = search needs
+
+returns-3 : tie.Need-returns-3
+returns-3 c = let a = c .before .before .before .before .before .before .before .before .before .before .before .before in carries _ _ (acted a) (start a .pre .1 .1 .1) (c .before .before .before .before .before .before .said2 .given .1) (c .before .before .before .status-of .ensures) refl (c .before .before .close-reply3 .ensures)
 
 pub carry-spec : {M : Type 1} → statement M
 carry-spec =
@@ -102,12 +108,16 @@ carry-spec =
     act-requires
     enum-known-said
     close-reply-requires
-    enum-known-said-2
-    status-of-requires
-    close-reply-requires-2
     same-length
     same-length-2
     returns
+    close-reply-requires-2
+    enum-known-said-2
+    status-of-requires
+    close-reply-requires-3
     same-length-3
     same-length-4
-    returns-2)
+    returns-2
+    same-length-5
+    same-length-6
+    returns-3)

@@ -4,17 +4,17 @@ use mathlib.Core.Path.{_≡_, refl}
 use mathlib.Core.List.{List, []}
 use Prim.Native.Nat.{ℕ}
 use Rattle.record.specs.Layout.{FlagByte, NamePart, atFlags, atNameLength}
-use Rattle.record.proofs.InPlaceLaws.{sound-at}
+use Rattle.record.proofs.InPlaceLaws.{sound-at, sound-long}
 use Rattle.command.specs.declared.Command.{Command}
 use Rattle.command.specs.declared.Command.the-variants.{Open, Close, Read, ReadName, SetName, ReadLock, ReadModel, StopSending, StartSending}
 use Rattle.command.specs.declared.Listed.the-variants.{Built}
 use Rattle.command.specs.Tables.{namedBy}
 use Rattle.command.specs.Effects.{effectOf}
-use Rattle.effect.specs.declared.Done.{Done}
-use Rattle.effect.specs.declared.Done.the-variants.{Told}
-use Rattle.effect.specs.Done.{Does, Carried}
+use Rattle.ranged.specs.declared.Done.{Done}
+use Rattle.ranged.specs.declared.Done.the-variants.{Told}
+use Rattle.effect.specs.Carried.{Does, Carried}
 use Rattle.effect.proofs.Arms.{carried, told, left-reads}
-use Rattle.effect.proofs.Rows.{sound-long, sound-name, opens, closes, unnames, stops, starts, tells-name, tells-lock, tells-model}
+use Rattle.effect.proofs.Rows.{sound-name, opens, closes, unnames, stops, starts, tells-name, tells-lock, tells-model}
 use borrow.Author.Needs.{needs}
 use Rattle.effect.proofs.bare.Statement.{statement}
 use Rattle.effect.proofs.bare.Tie as tie

@@ -1,10 +1,5 @@
 -- `carry_out`: with no parameters the one, else the other.
 use native.Mathlib.Omega.{arith}
-use mathlib.Core.Path.{_≡_}
-use mathlib.Core.List.{List, []}
-use lib.ListN.{length}
-use Prim.Native.Nat.{ℕ}
-use Rattle.effect.specs.Done.{Calls, Carried}
 use Rattle.effect.proofs.Arms.{no-length}
 use borrow.Author.Needs.{needs}
 use Rattle.effect.proofs.carry_out.Statement.{statement}

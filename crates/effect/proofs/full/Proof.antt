@@ -1,5 +1,4 @@
 -- `full`: each number of a command with parameters leaves what its row says; what is left sets a setting.
-use native.Mathlib.Omega.{arith}
 use mathlib.Core.Path.{_≡_, refl}
 use mathlib.Core.List.{List}
 use lib.ListN.{length}
@@ -12,9 +11,9 @@ use Rattle.command.specs.declared.Listed.the-variants.{Built}
 use Rattle.command.specs.Tables.{namedBy, spanOf}
 use Rattle.command.specs.Effects.{effectOf, dataOf}
 use Rattle.command.proofs.Keep.{counted-span}
-use Rattle.effect.specs.declared.Done.{Done}
-use Rattle.effect.specs.declared.Done.the-variants.{Told}
-use Rattle.effect.specs.Done.{Does, Carried}
+use Rattle.ranged.specs.declared.Done.{Done}
+use Rattle.ranged.specs.declared.Done.the-variants.{Told}
+use Rattle.effect.specs.Carried.{Does, Carried}
 use Rattle.effect.proofs.Arms.{counted, carried, stored, told, left-sets}
 use Rattle.effect.proofs.Rows.{unlocks, models}
 use borrow.Author.Needs.{needs}
