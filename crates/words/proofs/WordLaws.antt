@@ -1,45 +1,39 @@
 -- Words of bytes, low byte first, and parts of a list written over each other.
-use Prim.Native.Nat.{ℕ, zero, suc, _+_, _-_, _*_, _/_, _%_, _≤_, _<_}
-use mathlib.Core.Path.{_≡_, refl, sym, ap, _∙_}
+use Prim.Native.Nat.{ℕ, zero, suc, _+_, _-_, _*_, _/_, _%_, _^_, _≤_, _<_}
+use mathlib.Core.Path.{_≡_, refl, sym, ap, ap₂, _∙_}
 use mathlib.Core.Logic.{_⊎_, ⊎-elim}
 use mathlib.Core.List.{List, [], _∷_, _++_, append-assoc}
-use native.Mathlib.Nat.{div-div-eq-div-mul, add-zero, add-assoc}
-use native.Mathlib.Numerals.{towards-suc}
+use native.Mathlib.Nat.{div-div-eq-div-mul, add-zero, zero-add, add-suc, suc-add, add-assoc, mul-assoc, pow-suc, mod-eq-of-lt}
 use native.Mathlib.Omega.{arith}
 use lib.ListN.{length, getD, take, drop, set, replicate, length-append, length-drop, length-replicate, take-append-drop}
 use lib.Seq.{take-take, take-add, length-take-le, take-append-le, drop-append-add, drop-drop, take-all, take-at, drop-at, set-set}
 use Rattle.wire.specs.Numbers.{bytesAt, put}
 use Rattle.wire.proofs.NumberLaws.{part-is}
-use Rattle.wire.proofs.PutLaws.{put-nil, put-put, length-put, put-sets, put-one, put-two, put-three, put-four}
+use Rattle.wire.proofs.PutLaws.{put-nil, put-put, length-put, put-one, put-two, put-three, put-four}
 use Rattle.words.specs.Words.{lowBytes}
 
--- ---- a word of bytes written back is those bytes
+-- ---- the bytes of a number
 
-abbrev lowWord : List ℕ → ℕ
-lowWord [] = 0
-lowWord (b ∷ l) = b + 256 * lowWord l
+-- the bytes of a number with another behind it
+low-append : (n m a b : ℕ) → a < 256 ^ n → lowBytes (n + m) (a + b * 256 ^ n) ≡ lowBytes n a ++ lowBytes m b
+low-append zero m a b h =
+    let e : a + b * 1 ≡ b = omega arith in
+    rw (zero-add m, e) refl
+low-append (suc n) m a b h =
+    let low : (a + b * 256 ^ n * 256) % 256 ≡ a % 256 = omega arith in
+    let high : (a + b * 256 ^ n * 256) / 256 ≡ a / 256 + b * 256 ^ n = omega arith in
+    rw (pow-suc 256 n, ← mul-assoc b (256 ^ n) 256, suc-add n m, low, high) (ap (λ (l : List ℕ). a % 256 ∷ l) (low-append n m (a / 256) b (omega (arith, pow-suc 256 n))))
 
-abbrev Small : List ℕ → Type 0
-Small [] = Unit {0}
-Small (b ∷ l) = (b < 256) × Small l
+part-part : (n m : ℕ) (s : List ℕ) (at : ℕ) → bytesAt n s at ++ bytesAt m s (at + n) ≡ bytesAt (n + m) s at
+part-part zero m s at = rw (zero-add m, add-zero at) refl
+part-part (suc n) m s at = rw (suc-add n m, add-suc at n, ← suc-add at n) (ap (λ (l : List ℕ). getD s at 0 ∷ l) (part-part n m s (suc at)))
 
-back : (l : List ℕ) → Small l → lowBytes (length l) (lowWord l) ≡ l
-back [] h = refl
-back (b ∷ l) h =
-    let low : (b + 256 * lowWord l) % 256 ≡ b = omega (arith, h .0) in
-    let high : (b + 256 * lowWord l) / 256 ≡ lowWord l = omega (arith, h .0) in
-    rw (low, high) (ap (λ (x : List ℕ). b ∷ x) (back l (h .1)))
+-- two numbers read from neighbouring places
+read-append : (n m : ℕ) (s : List ℕ) (at a b : ℕ) → a < 256 ^ n → lowBytes n a ≡ bytesAt n s at → lowBytes m b ≡ bytesAt m s (at + n) → lowBytes (n + m) (a + b * 256 ^ n) ≡ bytesAt (n + m) s at
+read-append n m s at a b h A B = low-append n m a b h ∙ ap₂ (_++_) A B ∙ part-part n m s at
 
-four-back : (a b c d : ℕ) → a < 256 → b < 256 → c < 256 → d < 256 → lowBytes 4 (a + b * 0x100 + c * 0x10000 + d * 0x1000000) ≡ a ∷ b ∷ c ∷ d ∷ []
-four-back a b c d A B C D =
-    let e : a + b * 0x100 + c * 0x10000 + d * 0x1000000 ≡ lowWord (a ∷ b ∷ c ∷ d ∷ []) = omega arith in
-    ap (lowBytes 4) e ∙ back (a ∷ b ∷ c ∷ d ∷ []) (A, (B, (C, (D, tt))))
-
-eight-back : (a b c d e f g h : ℕ) → a < 256 → b < 256 → c < 256 → d < 256 → e < 256 → f < 256 → g < 256 → h < 256
-    → lowBytes 8 (a + b * 0x100 + c * 0x10000 + d * 0x1000000 + e * 0x100000000 + f * 0x10000000000 + g * 0x1000000000000 + h * 0x100000000000000) ≡ a ∷ b ∷ c ∷ d ∷ e ∷ f ∷ g ∷ h ∷ []
-eight-back a b c d e f g h A B C D E F G H =
-    let z : a + b * 0x100 + c * 0x10000 + d * 0x1000000 + e * 0x100000000 + f * 0x10000000000 + g * 0x1000000000000 + h * 0x100000000000000 ≡ lowWord (a ∷ b ∷ c ∷ d ∷ e ∷ f ∷ g ∷ h ∷ []) = omega arith in
-    ap (lowBytes 8) z ∙ back (a ∷ b ∷ c ∷ d ∷ e ∷ f ∷ g ∷ h ∷ []) (A, (B, (C, (D, (E, (F, (G, (H, tt))))))))
+read-byte : (s : List ℕ) (at a : ℕ) → (a ≡ getD s at 0) × (a < 256) → lowBytes 1 a ≡ bytesAt 1 s at
+read-byte s at a A = rw (mod-eq-of-lt (A .1), A .0) refl
 
 -- the bytes as the code divides them out
 four-low : (w : ℕ) → w % 256 ∷ w / 0x100 % 256 ∷ w / 0x10000 % 256 ∷ w / 0x1000000 % 256 ∷ [] ≡ lowBytes 4 w
@@ -47,17 +41,6 @@ four-low w =
     let p : w / 256 / 256 ≡ w / 0x10000 = div-div-eq-div-mul w 256 256 in
     let q : w / 256 / 256 / 256 ≡ w / 0x1000000 = ap (λ (x : ℕ). x / 256) p ∙ div-div-eq-div-mul w 0x10000 256 in
     rw (q, p) refl
-
-eight-low : (w : ℕ)
-    → w % 256 ∷ w / 0x100 % 256 ∷ w / 0x10000 % 256 ∷ w / 0x1000000 % 256 ∷ w / 0x100000000 % 256 ∷ w / 0x10000000000 % 256 ∷ w / 0x1000000000000 % 256 ∷ w / 0x100000000000000 % 256 ∷ [] ≡ lowBytes 8 w
-eight-low w =
-    let p₂ : w / 256 / 256 ≡ w / 0x10000 = div-div-eq-div-mul w 256 256 in
-    let p₃ : w / 256 / 256 / 256 ≡ w / 0x1000000 = ap (λ (x : ℕ). x / 256) p₂ ∙ div-div-eq-div-mul w 0x10000 256 in
-    let p₄ : w / 256 / 256 / 256 / 256 ≡ w / 0x100000000 = ap (λ (x : ℕ). x / 256) p₃ ∙ div-div-eq-div-mul w 0x1000000 256 in
-    let p₅ : w / 256 / 256 / 256 / 256 / 256 ≡ w / 0x10000000000 = ap (λ (x : ℕ). x / 256) p₄ ∙ div-div-eq-div-mul w 0x100000000 256 in
-    let p₆ : w / 256 / 256 / 256 / 256 / 256 / 256 ≡ w / 0x1000000000000 = ap (λ (x : ℕ). x / 256) p₅ ∙ div-div-eq-div-mul w 0x10000000000 256 in
-    let p₇ : w / 256 / 256 / 256 / 256 / 256 / 256 / 256 ≡ w / 0x100000000000000 = ap (λ (x : ℕ). x / 256) p₆ ∙ div-div-eq-div-mul w 0x1000000000000 256 in
-    rw (p₇, p₆, p₅, p₄, p₃, p₂) refl
 
 -- ---- parts written over each other
 
@@ -168,29 +151,25 @@ put-none d at (x ∷ p) h = absurd (omega arith)
 
 pub four-read : (s : List ℕ) (at a b c d : ℕ) → (a ≡ getD s at 0) × (a < 256) → (b ≡ getD s (at + 1) 0) × (b < 256) → (c ≡ getD s (at + 2) 0) × (c < 256) → (d ≡ getD s (at + 3) 0) × (d < 256)
     → lowBytes 4 (a + b * 0x100 + c * 0x10000 + d * 0x1000000) ≡ bytesAt 4 s at
-four-read s at a b c d A B C D = four-back a b c d (A .1) (B .1) (C .1) (D .1) ∙ rw (A .0, B .0, C .0, D .0) (simp towards-suc)
+four-read s at a b c d A B C D =
+    let two : lowBytes 2 (a + b * 0x100) ≡ bytesAt 2 s at = read-append 1 1 s at a b (A .1) (read-byte s at a A) (read-byte s (at + 1) b B) in
+    let three : lowBytes 3 (a + b * 0x100 + c * 0x10000) ≡ bytesAt 3 s at = read-append 2 1 s at (a + b * 0x100) c (omega (arith, A .1, B .1)) two (read-byte s (at + 2) c C) in
+    read-append 3 1 s at (a + b * 0x100 + c * 0x10000) d (omega (arith, A .1, B .1, C .1)) three (read-byte s (at + 3) d D)
 
-pub eight-read : (s : List ℕ) (at a b c d e f g h : ℕ) → (a ≡ getD s at 0) × (a < 256) → (b ≡ getD s (at + 1) 0) × (b < 256) → (c ≡ getD s (at + 2) 0) × (c < 256) → (d ≡ getD s (at + 3) 0) × (d < 256)
-    → (e ≡ getD s (at + 4) 0) × (e < 256) → (f ≡ getD s (at + 5) 0) × (f < 256) → (g ≡ getD s (at + 6) 0) × (g < 256) → (h ≡ getD s (at + 7) 0) × (h < 256)
-    → lowBytes 8 (a + b * 0x100 + c * 0x10000 + d * 0x1000000 + e * 0x100000000 + f * 0x10000000000 + g * 0x1000000000000 + h * 0x100000000000000) ≡ bytesAt 8 s at
-eight-read s at a b c d e f g h A B C D E F G H =
-    eight-back a b c d e f g h (A .1) (B .1) (C .1) (D .1) (E .1) (F .1) (G .1) (H .1)
-    ∙ rw (A .0, B .0, C .0, D .0, E .0, F .0, G .0, H .0) (simp towards-suc)
+pub eight-read : (s : List ℕ) (at a b c d : ℕ) → lowBytes 4 a ≡ bytesAt 4 s at → lowBytes 4 b ≡ bytesAt 4 s (at + 4) → (c ≡ a) × (c < 0x100000000) → (d ≡ b) × (d < 0x100000000)
+    → lowBytes 8 (c + d * 0x100000000) ≡ bytesAt 8 s at
+eight-read s at a b c d A B C D = read-append 4 4 s at c d (C .1) (ap (lowBytes 4) (C .0) ∙ A) (ap (lowBytes 4) (D .0) ∙ B)
 
 pub four-stores : (d : List ℕ) (at w : ℕ) → at + 4 ≤ length d
     → set (set (set (set d at (w % 256)) (at + 1) (w / 0x100 % 256)) (at + 2) (w / 0x10000 % 256)) (at + 3) (w / 0x1000000 % 256) ≡ put d at (lowBytes 4 w)
 four-stores d at w h = put-four d at (w % 256) (w / 0x100 % 256) (w / 0x10000 % 256) (w / 0x1000000 % 256) h ∙ ap (put d at) (four-low w)
 
-put-eight : (d : List ℕ) (at a b c e f g i j : ℕ) → at + 8 ≤ length d
-    → set (set (set (set (set (set (set (set d at a) (at + 1) b) (at + 2) c) (at + 3) e) (at + 4) f) (at + 5) g) (at + 6) i) (at + 7) j ≡ put d at (a ∷ b ∷ c ∷ e ∷ f ∷ g ∷ i ∷ j ∷ [])
-put-eight d at a b c e f g i j h = simp towards-suc (sym (put-sets d at (a ∷ b ∷ c ∷ e ∷ f ∷ g ∷ i ∷ j ∷ []) (omega arith)))
-
-pub eight-stores : (d : List ℕ) (at w : ℕ) → at + 8 ≤ length d
-    → set (set (set (set (set (set (set (set d at (w % 256)) (at + 1) (w / 0x100 % 256)) (at + 2) (w / 0x10000 % 256)) (at + 3) (w / 0x1000000 % 256)) (at + 4) (w / 0x100000000 % 256)) (at + 5) (w / 0x10000000000 % 256)) (at + 6) (w / 0x1000000000000 % 256)) (at + 7) (w / 0x100000000000000 % 256)
-    ≡ put d at (lowBytes 8 w)
-eight-stores d at w h =
-    put-eight d at (w % 256) (w / 0x100 % 256) (w / 0x10000 % 256) (w / 0x1000000 % 256) (w / 0x100000000 % 256) (w / 0x10000000000 % 256) (w / 0x1000000000000 % 256) (w / 0x100000000000000 % 256) h
-    ∙ ap (put d at) (eight-low w)
+pub eight-stores : (x y z : List ℕ) (at w : ℕ) → at + 8 ≤ length x → y ≡ put x at (lowBytes 4 (w % 0x100000000)) → z ≡ put y (at + 4) (lowBytes 4 (w / 0x100000000)) → z ≡ put x at (lowBytes 8 w)
+eight-stores x y z at w h f g =
+    let e : w % 0x100000000 + w / 0x100000000 * 0x100000000 ≡ w = omega arith in
+    g
+    ∙ rw f (put-put x at (lowBytes 4 (w % 0x100000000)) (lowBytes 4 (w / 0x100000000)) (omega arith))
+    ∙ ap (put x at) (sym (low-append 4 4 (w % 0x100000000) (w / 0x100000000) (omega arith)) ∙ ap (lowBytes 8) e)
 
 -- ---- eight to 24 bytes, x being the buffer behind the test for a gap
 

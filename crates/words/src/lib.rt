@@ -5,33 +5,13 @@ ghost use lib.ListN.{length, replicate};
 ghost use Rattle.wire.specs.Numbers.{bytesAt, put};
 ghost use Rattle.words.specs.Words.{lowBytes};
 
-fn wide(b: u8) -> u64
-    ensures { λ r. ⌜ (r ≡ b) × (r < 256) ⌝ }
-{
-    b as u64
-}
-
-// Eight bytes as a number, low byte first, so that the compiler makes one load of them.
-fn eight_at(s: &[u8], at: usize) -> u64
-    requires { ⌜ at + 8 ≤ length (now s) ⌝ }
-    ensures { λ r. ⌜ lowBytes 8 r ≡ bytesAt 8 (now (s .entry)) at ⌝ }
-{
-    wide(s[at])
-        + wide(s[at + 1]) * 0x100
-        + wide(s[at + 2]) * 0x10000
-        + wide(s[at + 3]) * 0x1000000
-        + wide(s[at + 4]) * 0x100000000
-        + wide(s[at + 5]) * 0x10000000000
-        + wide(s[at + 6]) * 0x1000000000000
-        + wide(s[at + 7]) * 0x100000000000000
-}
-
 fn half_wide(b: u8) -> u32
     ensures { λ r. ⌜ (r ≡ b) × (r < 256) ⌝ }
 {
     b as u32
 }
 
+// Four bytes as a number, low byte first, so that the compiler makes one load of them.
 fn four_at(s: &[u8], at: usize) -> u32
     requires { ⌜ at + 4 ≤ length (now s) ⌝ }
     ensures { λ r. ⌜ lowBytes 4 r ≡ bytesAt 4 (now (s .entry)) at ⌝ }
@@ -42,18 +22,17 @@ fn four_at(s: &[u8], at: usize) -> u32
         + half_wide(s[at + 3]) * 0x1000000
 }
 
-fn put_eight(buffer: &mut [u8], at: usize, w: u64)
-    requires { ⌜ at + 8 ≤ length (now buffer) ⌝ }
-    ensures { λ _. ⌜ now (buffer .exit) ≡ put (now (buffer .entry)) at (lowBytes 8 w) ⌝ }
+fn wide(w: u32) -> u64
+    ensures { λ r. ⌜ (r ≡ w) × (r < 0x100000000) ⌝ }
 {
-    buffer[at] = (w % 256) as u8;
-    buffer[at + 1] = (w / 0x100 % 256) as u8;
-    buffer[at + 2] = (w / 0x10000 % 256) as u8;
-    buffer[at + 3] = (w / 0x1000000 % 256) as u8;
-    buffer[at + 4] = (w / 0x100000000 % 256) as u8;
-    buffer[at + 5] = (w / 0x10000000000 % 256) as u8;
-    buffer[at + 6] = (w / 0x1000000000000 % 256) as u8;
-    buffer[at + 7] = (w / 0x100000000000000 % 256) as u8;
+    w as u64
+}
+
+fn eight_at(s: &[u8], at: usize) -> u64
+    requires { ⌜ at + 8 ≤ length (now s) ⌝ }
+    ensures { λ r. ⌜ lowBytes 8 r ≡ bytesAt 8 (now (s .entry)) at ⌝ }
+{
+    wide(four_at(s, at)) + wide(four_at(s, at + 4)) * 0x100000000
 }
 
 fn put_four(buffer: &mut [u8], at: usize, w: u32)
@@ -64,6 +43,14 @@ fn put_four(buffer: &mut [u8], at: usize, w: u32)
     buffer[at + 1] = (w / 0x100 % 256) as u8;
     buffer[at + 2] = (w / 0x10000 % 256) as u8;
     buffer[at + 3] = (w / 0x1000000 % 256) as u8;
+}
+
+fn put_eight(buffer: &mut [u8], at: usize, w: u64)
+    requires { ⌜ at + 8 ≤ length (now buffer) ⌝ }
+    ensures { λ _. ⌜ now (buffer .exit) ≡ put (now (buffer .entry)) at (lowBytes 8 w) ⌝ }
+{
+    put_four(buffer, at, (w % 0x100000000) as u32);
+    put_four(buffer, at + 4, (w / 0x100000000) as u32);
 }
 
 // Eight to 24 bytes by their first, last and, if these leave a gap, second eight.

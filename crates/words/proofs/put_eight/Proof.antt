@@ -1,112 +1,40 @@
--- `put_eight`: eight stores are the bytes of the number.
+-- `put_eight`: its lower and its upper four bytes are the bytes of the number.
 use Rattle.words.proofs.WordLaws.{eight-stores}
-use native.Mathlib.Omega.{arith}
-use lib.ListN.{length-set}
 use borrow.Author.Needs.{needs}
 use Rattle.words.proofs.put_eight.Statement.{statement}
 use Rattle.words.proofs.put_eight.Tie as tie
 
-cast-buffer : tie.Need-cast-buffer
-cast-buffer c = search needs
+cast-put-four : tie.Need-cast-put-four
+cast-put-four c = search needs
 
-slice-write-buffer : tie.Need-slice-write-buffer
-slice-write-buffer c = search needs
+put-four-requires : tie.Need-put-four-requires
+put-four-requires c κs = search needs
 
-cast-buffer-2 : tie.Need-cast-buffer-2
-cast-buffer-2 c = search needs
+add-put-four : tie.Need-add-put-four
+add-put-four c = search needs
 
-add-buffer : tie.Need-add-buffer
-add-buffer c = search needs
+cast-put-four-2 : tie.Need-cast-put-four-2
+cast-put-four-2 c = search needs
 
-slice-write-buffer-2 : tie.Need-slice-write-buffer-2
-slice-write-buffer-2 c = simp length-set (omega arith)
-
-cast-buffer-3 : tie.Need-cast-buffer-3
-cast-buffer-3 c = search needs
-
-add-buffer-2 : tie.Need-add-buffer-2
-add-buffer-2 c = search needs
-
-slice-write-buffer-3 : tie.Need-slice-write-buffer-3
-slice-write-buffer-3 c = simp length-set (omega arith)
-
-cast-buffer-4 : tie.Need-cast-buffer-4
-cast-buffer-4 c = search needs
-
-add-buffer-3 : tie.Need-add-buffer-3
-add-buffer-3 c = search needs
-
-slice-write-buffer-4 : tie.Need-slice-write-buffer-4
-slice-write-buffer-4 c = simp length-set (omega arith)
-
-cast-buffer-5 : tie.Need-cast-buffer-5
-cast-buffer-5 c = search needs
-
-add-buffer-4 : tie.Need-add-buffer-4
-add-buffer-4 c = search needs
-
-slice-write-buffer-5 : tie.Need-slice-write-buffer-5
-slice-write-buffer-5 c = simp length-set (omega arith)
-
-cast-buffer-6 : tie.Need-cast-buffer-6
-cast-buffer-6 c = search needs
-
-add-buffer-5 : tie.Need-add-buffer-5
-add-buffer-5 c = search needs
-
-slice-write-buffer-6 : tie.Need-slice-write-buffer-6
-slice-write-buffer-6 c = simp length-set (omega arith)
-
-cast-buffer-7 : tie.Need-cast-buffer-7
-cast-buffer-7 c = search needs
-
-add-buffer-6 : tie.Need-add-buffer-6
-add-buffer-6 c = search needs
-
-slice-write-buffer-7 : tie.Need-slice-write-buffer-7
-slice-write-buffer-7 c = simp length-set (omega arith)
-
-cast-buffer-8 : tie.Need-cast-buffer-8
-cast-buffer-8 c = search needs
-
-add-buffer-7 : tie.Need-add-buffer-7
-add-buffer-7 c = search needs
-
-slice-write-buffer-8 : tie.Need-slice-write-buffer-8
-slice-write-buffer-8 c = simp length-set (omega arith)
+put-four-requires-2 : tie.Need-put-four-requires-2
+put-four-requires-2 c κs = search needs
 
 same-length : tie.Need-same-length
 same-length c = search needs
 
 returns : tie.Need-returns
-returns c = eight-stores (c .args .buffer .now) (c .args .at) (c .args .w) (c .pre)
+returns c =
+    let z = c .before .before .before .before .before .before .before .before .before in
+    eight-stores (z .args .buffer .now) _ _ (z .args .at) (z .args .w) (z .pre) (c .before .before .before .before .before .before .put-four .ensures) (c .before .before .put-four2 .ensures)
 
 pub put-eight-spec : {M : Type 1} → statement M
 put-eight-spec =
     tie.close
     (tie.spec
-    cast-buffer
-    slice-write-buffer
-    cast-buffer-2
-    add-buffer
-    slice-write-buffer-2
-    cast-buffer-3
-    add-buffer-2
-    slice-write-buffer-3
-    cast-buffer-4
-    add-buffer-3
-    slice-write-buffer-4
-    cast-buffer-5
-    add-buffer-4
-    slice-write-buffer-5
-    cast-buffer-6
-    add-buffer-5
-    slice-write-buffer-6
-    cast-buffer-7
-    add-buffer-6
-    slice-write-buffer-7
-    cast-buffer-8
-    add-buffer-7
-    slice-write-buffer-8
+    cast-put-four
+    put-four-requires
+    add-put-four
+    cast-put-four-2
+    put-four-requires-2
     same-length
     returns)
