@@ -3,23 +3,17 @@ use Prim.Native.Nat.{ℕ, zero, suc, _+_, _≤_}
 use mathlib.Core.Path.{_≡_, refl, sym, ap, ap₂, subst, _∙_}
 use mathlib.Core.Bool.{Bool, true, false, cond, not, _||_, or-true, and-eq-true-iff, false≢true}
 use mathlib.Core.List.{List, [], _∷_, _++_}
-use native.Mathlib.Nat.{add-zero, zero-add, add-assoc, suc-add}
+use native.Mathlib.Nat.{add-zero, zero-add, add-assoc}
 use native.Mathlib.Omega.{arith}
 use lib.ListN.{length, getD, length-append}
 use lib.Seq.{sets, take-at, drop-at}
 use borrow.Author.Tests.{eqb-true, eq-eqb}
-use Rattle.wire.proofs.NumberLaws.{part-is}
+use Rattle.wire.proofs.NumberLaws.{part-is, part-part}
 use Rattle.wire.specs.Numbers.{bytesAt}
 use Rattle.record.specs.Layout.{Part, SizeBytes, VersionByte, FlagByte, TriesByte, CodeWord, PowerHalf, StepByte, ModeByte, OnOffByte, InputBytes, OutputByte, IntervalByte, FilterWord, NamePart, ModelPart, PendingPart, PairsPart, CounterHalf, tag, allParts, same, has, distinct, sizeOf, placeOf, lay, each}
 use Rattle.record.proofs.Parts.{part-drop, sets-behind, sets-within}
 
 -- ---- parts of lists
-
-pub part-part : (n m : ℕ) (s : List ℕ) (at : ℕ) → bytesAt n s at ++ bytesAt m s (at + n) ≡ bytesAt (n + m) s at
-part-part zero m s at = ap (bytesAt m s) (add-zero at) ∙ ap (λ (k : ℕ). bytesAt k s at) (sym (zero-add m))
-part-part (suc n) m s at =
-    let e : at + suc n ≡ suc at + n = omega arith in
-    ap (λ (l : List ℕ). getD s at 0 ∷ l) (ap (λ (k : ℕ). bytesAt n s (suc at) ++ bytesAt m s k) e ∙ part-part n m s (suc at)) ∙ ap (λ (k : ℕ). bytesAt k s at) (sym (suc-add n m))
 
 part-front : (n : ℕ) (a b : List ℕ) → length a ≡ n → bytesAt n (a ++ b) 0 ≡ a
 part-front n a b e = part-is n (a ++ b) 0 (let h : length (a ++ b) ≡ length a + length b = length-append a b in omega arith) ∙ take-at a b n e

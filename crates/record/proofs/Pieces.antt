@@ -15,7 +15,7 @@ use Rattle.wire.specs.Zeros.{allZero, beforeZero}
 use Rattle.wire.specs.Frames.{waits}
 use Rattle.wire.specs.declared.Range.{Range}
 use Rattle.wire.specs.declared.Range.the-variants.{Fits, Big, Small}
-use Rattle.wire.proofs.NumberLaws.{half-back, word-back, length-part, part-all, bytes-part, bytes-take}
+use Rattle.wire.proofs.NumberLaws.{half-back, word-back, length-part, part-all, bytes-part, bytes-take, part-part}
 use Rattle.peak.specs.Pairs.{Pair, noPair, pairAt, pairsAt, pairBytes, pairsBytes, pairFits}
 use Rattle.record.specs.Record.{Outputs, Record}
 use Rattle.record.specs.Limits.{powerRange, stepRange, modeRange, onOffRange, inputRange, intervalRange, filterRange, nameRange}
@@ -25,7 +25,6 @@ use Rattle.record.proofs.Choices.{nibble-below, nibble-back, bits-back,
 use Rattle.wire.proofs.ZeroLaws.{shift, part-back, rest-zero, pad-take, cut-cut, cut-bytes, cut-le, cut-back, cut-behind, pad-cut}
 use Rattle.record.proofs.Parts.{Words, part-drop, word-lt, words-lt, half-at, word-at, pair-part, pair-back, pairs-part, pairs-shift}
 use Rattle.record.specs.Laid.{Laid, coreParts, radioParts}
-use Rattle.record.proofs.Layouts.{part-part}
 
 -- ---- pairs, any number of them
 

@@ -2,7 +2,7 @@
 use Prim.Native.Nat.{ℕ, zero, suc, _+_, _-_, _*_, _/_, _%_, _≤_, _<_}
 use mathlib.Core.Path.{_≡_, refl, sym, ap, _∙_}
 use mathlib.Core.List.{List, [], _∷_, _++_}
-use native.Mathlib.Nat.{div-div-eq-div-mul, div-add-mod', mod-eq-of-lt, add-mul, mul-assoc, add-assoc, sub-zero, suc-sub-suc, zero-sub}
+use native.Mathlib.Nat.{div-div-eq-div-mul, div-add-mod', mod-eq-of-lt, add-mul, mul-assoc, add-assoc, add-zero, zero-add, add-suc, suc-add, sub-zero, suc-sub-suc, zero-sub}
 use native.Mathlib.Omega.{arith}
 use lib.ListN.{length, getD, take, drop}
 use lib.Seq.{drop-cons, take-all, take-nil, getD-drop}
@@ -52,6 +52,10 @@ pub part-is : (n : ℕ) (s : List ℕ) (at : ℕ) → at + n ≤ length s → by
 part-is zero s at h = refl
 part-is (suc n) s at h =
     ap (λ (x : List ℕ). getD s at 0 ∷ x) (part-is n s (suc at) (omega arith)) ∙ ap (take (suc n)) (sym (drop-cons s at 0 (omega arith)))
+
+pub part-part : (n m : ℕ) (s : List ℕ) (at : ℕ) → bytesAt n s at ++ bytesAt m s (at + n) ≡ bytesAt (n + m) s at
+part-part zero m s at = rw (zero-add m, add-zero at) refl
+part-part (suc n) m s at = rw (suc-add n m, add-suc at n, ← suc-add at n) (ap (λ (l : List ℕ). getD s at 0 ∷ l) (part-part n m s (suc at)))
 
 pub part-all : (n : ℕ) (s : List ℕ) → length s ≡ n → bytesAt n s 0 ≡ s
 part-all n s h = part-is n s 0 (omega arith) ∙ take-all n s (omega arith)

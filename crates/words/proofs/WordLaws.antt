@@ -3,12 +3,12 @@ use Prim.Native.Nat.{ℕ, zero, suc, _+_, _-_, _*_, _/_, _%_, _^_, _≤_, _<_}
 use mathlib.Core.Path.{_≡_, refl, sym, ap, ap₂, _∙_}
 use mathlib.Core.Logic.{_⊎_, ⊎-elim}
 use mathlib.Core.List.{List, [], _∷_, _++_, append-assoc}
-use native.Mathlib.Nat.{div-div-eq-div-mul, add-zero, zero-add, add-suc, suc-add, add-assoc, mul-assoc, pow-suc, mod-eq-of-lt}
+use native.Mathlib.Nat.{div-div-eq-div-mul, add-zero, zero-add, suc-add, add-assoc, mul-assoc, pow-suc, mod-eq-of-lt}
 use native.Mathlib.Omega.{arith}
 use lib.ListN.{length, getD, take, drop, set, replicate, length-append, length-drop, length-replicate, take-append-drop}
 use lib.Seq.{take-take, take-add, length-take-le, take-append-le, drop-append-add, drop-drop, take-all, take-at, drop-at, set-set}
 use Rattle.wire.specs.Numbers.{bytesAt, put}
-use Rattle.wire.proofs.NumberLaws.{part-is}
+use Rattle.wire.proofs.NumberLaws.{part-is, part-part}
 use Rattle.wire.proofs.PutLaws.{put-nil, put-put, length-put, put-one, put-two, put-three, put-four}
 use Rattle.words.specs.Words.{lowBytes}
 
@@ -23,10 +23,6 @@ low-append (suc n) m a b h =
     let low : (a + b * 256 ^ n * 256) % 256 ≡ a % 256 = omega arith in
     let high : (a + b * 256 ^ n * 256) / 256 ≡ a / 256 + b * 256 ^ n = omega arith in
     rw (pow-suc 256 n, ← mul-assoc b (256 ^ n) 256, suc-add n m, low, high) (ap (λ (l : List ℕ). a % 256 ∷ l) (low-append n m (a / 256) b (omega (arith, pow-suc 256 n))))
-
-part-part : (n m : ℕ) (s : List ℕ) (at : ℕ) → bytesAt n s at ++ bytesAt m s (at + n) ≡ bytesAt (n + m) s at
-part-part zero m s at = rw (zero-add m, add-zero at) refl
-part-part (suc n) m s at = rw (suc-add n m, add-suc at n, ← suc-add at n) (ap (λ (l : List ℕ). getD s at 0 ∷ l) (part-part n m s (suc at)))
 
 -- two numbers read from neighbouring places
 read-append : (n m : ℕ) (s : List ℕ) (at a b : ℕ) → a < 256 ^ n → lowBytes n a ≡ bytesAt n s at → lowBytes m b ≡ bytesAt m s (at + n) → lowBytes (n + m) (a + b * 256 ^ n) ≡ bytesAt (n + m) s at
