@@ -163,7 +163,7 @@ struct board_answer board_samples(uint8_t *record, size_t record_len, const uint
  * interrupt; two calls on the same record, or with the same output, may not.
  *
  * The archive is x86-64 code for the System V calling convention (SSE2, position independent). It calls
- * memset and nothing else, takes buffers at any alignment, and was measured to use at most 832
+ * memset and nothing else, takes buffers at any alignment, and was measured to use at most 840
  * bytes of stack (docs/PERFORMANCE.md; reserve 1,024). Floats are compared in the processor's usual mode:
  * a program linked with -ffast-math takes the tiniest values for zero, and pairs then differ from the proof.
  *
