@@ -7,20 +7,22 @@ use native.Mathlib.Omega.{arith}
 use lib.ListN.{length, getD, take, drop}
 use lib.Seq.{take-take, drop-drop}
 use lib.Dec.{leb, eqb}
-use borrow.Author.Tests.{lt-leb, le-leb, eq-eqb, ne-eqb}
+use borrow.Author.Tests.{lt-leb, le-leb, eq-eqb, ne-eqb, eqb-true}
 use Rattle.wire.specs.Numbers.{bytesAt}
 use Rattle.wire.specs.Ranges.{fits, also}
 use Rattle.wire.specs.declared.Range.the-variants.{Fits, Big}
 use Rattle.wire.specs.Zeros.{allZero, zerosBehind, beforeZero}
 use Rattle.wire.specs.Frames.{waits}
 use Rattle.wire.specs.Serial.{serial}
-use Rattle.wire.proofs.NumberLaws.{length-part, part-all, part-is, drop-take}
-use Rattle.wire.proofs.ScanLaws.{part}
+use Rattle.wire.proofs.NumberLaws.{part-is, drop-take}
+use Rattle.wire.proofs.ScanLaws.{part, part-cons}
 use Rattle.wire.proofs.ZeroLaws.{behind-is}
 use Rattle.record.specs.Layout.{recordSize, nameRoom, modelRoom, pendingRoom, atNameLength, atName, atModel, atPendingLength, atPending, atPairs}
 use Rattle.record.specs.Limits.{nameRange}
 use Rattle.record.specs.Form.{Field, partFits, allFine, wellFormed, formBy, formOf}
 use Rattle.record.specs.declared.Form.the-variants.{Good, Bad}
+use Rattle.peak.proofs.PairLaws.{both}
+use Rattle.form.proofs.Pending.{none}
 use Rattle.form.specs.Groups.{headFields, radioFields, inputFields, switchFields, nameFields, modelFields, pendingFields, pairFields, groupsOf, join}
 
 -- the part behind the bytes in use, by the places where it starts and ends
@@ -38,35 +40,6 @@ part-fits test s at room n h k =
     ap (take n) (part-is room s at h) ∙ take-take n room (drop at s) k ∙ ap (λ (m : ℕ). take m (drop at s)) a in
     ap₂ (_&&_) (ap test used) (ap allZero (part-behind s at room n h k))
 
--- zeros may stand in a name, so that a name and the zeros behind it are tested as one
-name-zero : (l : List ℕ) → allZero l ≡ true → fits (nameRange l) ≡ true
-unfolding allZero nameRange
-name-zero [] e = refl
-name-zero (zero ∷ l) e = name-zero l e
-name-zero (suc b ∷ l) e =
-    let q = rw (ne-eqb (suc b) 0 (λ z. omega arith)) at e in
-    let z : _≡_ {A = ℕ} 0 1 = cc in
-    absurd (omega arith)
-
-room-name : (n : ℕ) (l : List ℕ) → (fits (nameRange (take n l)) && allZero (drop n l)) ≡ (fits (nameRange l) && allZero (drop n l))
-unfolding nameRange
-room-name zero l = by (allZero l) refl
-  where
-    by : (t : Bool) → allZero l ≡ t → t ≡ (fits (nameRange l) && t)
-    by true e = rw (name-zero l e) refl
-    by false e = no (fits (nameRange l))
-      where
-        no : (b : Bool) → false ≡ (b && false)
-        no true = refl
-        no false = refl
-room-name (suc n) [] = refl
-room-name (suc n) (b ∷ l) = by (leb b 0x7F) (room-name n l)
-  where
-    by : (t : Bool) → (fits (nameRange (take n l)) && allZero (drop n l)) ≡ (fits (nameRange l) && allZero (drop n l))
-        → (fits (also (cond t Fits Big) (nameRange (take n l))) && allZero (drop n l)) ≡ (fits (also (cond t Fits Big) (nameRange l)) && allZero (drop n l))
-    by true e = e
-    by false e = refl
-
 -- a length byte in its range, and its part
 fields-yes : (n room : ℕ) (rest : Bool) → n ≤ room → (leb n room && (rest && true)) ≡ rest
 fields-yes n room rest h = rw (le-leb n room h) (and-true rest)
@@ -83,31 +56,11 @@ module _ (s : List ℕ) (whole : atModel ≤ length s) where
   abbrev name : ℕ
   name = getD s atNameLength 0
 
-  abbrev room : List ℕ
-  room = bytesAt nameRoom s atName
-
-  -- the room as it is handed on
-  room-is : bytesAt nameRoom (take (atModel - atName) (drop atName s)) 0 ≡ room
-  room-is = ap (λ (l : List ℕ). bytesAt nameRoom l 0) (sym (part-is nameRoom s atName whole)) ∙ part-all nameRoom room (length-part nameRoom s atName)
-
   pub name-long : nameRoom < name → false ≡ allFine (nameFields s)
   name-long h = rw (lt-leb name nameRoom h) refl
 
-  module _ (h : name ≤ nameRoom) where
-    name-is : allFine (nameFields s) ≡ (fits (nameRange room) && allZero (part s (atName + name) atModel))
-    name-is =
-        fields-yes name nameRoom (partFits (λ l. fits (nameRange l)) name room) h
-        ∙ room-name name room ∙ ap (λ (l : List ℕ). fits (nameRange room) && allZero l) (part-behind s atName nameRoom name whole h)
-
-    module _ (t : Bool) (e : t ≡ fits (nameRange (bytesAt nameRoom (take (atModel - atName) (drop atName s)) 0))) where
-      named : fits (nameRange room) ≡ t
-      named = sym (e ∙ ap (λ (l : List ℕ). fits (nameRange l)) room-is)
-
-      pub name-zeros : t ≡ true → allZero (part s (atName + name) atModel) ≡ allFine (nameFields s)
-      name-zeros y = sym (name-is ∙ both-first _ _ (named ∙ y))
-
-      pub name-bad : t ≡ false → false ≡ allFine (nameFields s)
-      name-bad y = sym (name-is ∙ both-not _ _ (named ∙ y))
+  pub name-by : name ≤ nameRoom → (l : List ℕ) (t : Bool) → l ≡ bytesAt nameRoom s atName → t ≡ partFits (λ k. fits (nameRange k)) name l → t ≡ allFine (nameFields s)
+  name-by h l t e f = f ∙ ap (partFits (λ k. fits (nameRange k)) name) e ∙ sym (fields-yes name nameRoom (partFits (λ k. fits (nameRange k)) name (bytesAt nameRoom s atName)) h)
 
 -- ---- the pending bytes
 
@@ -130,6 +83,15 @@ module _ (s : List ℕ) (whole : atPairs ≤ length s) where
     pub pending-bad : waits serial (take waiting (drop atPending s)) ≡ false → false ≡ allFine (pendingFields s)
     pending-bad e = sym (pending-is ∙ both-not _ _ e)
 
+  -- nothing waits
+  pub pending-none : allZero (part s atPendingLength atPairs) ≡ true → allFine (pendingFields s) ≡ true
+  unfolding allZero
+  pending-none e =
+      let w = both (eqb waiting 0) (allZero (part s atPending atPairs)) (rw (part-cons s atPendingLength atPairs (omega arith) whole) at e) in
+      let n : waiting ≡ 0 = eqb-true waiting 0 (w .0) in
+      let rest : allZero (part s (atPending + waiting) atPairs) ≡ true = rw n (w .1) in
+      sym (pending-zeros (omega arith) (sym (none s atPending waiting (omega arith) n))) ∙ rest
+
 -- ---- the model, from its first zero on
 
 pub model-is : (s : List ℕ) (at : ℕ) → at + modelRoom ≤ length s → (first : ℕ) → first ≡ at + length (beforeZero (part s at (at + modelRoom)))
@@ -142,6 +104,19 @@ model-is s at h first e =
     rw e
     (sym (ap zerosBehind p ∙ behind-is (part s at (at + modelRoom))
     ∙ ap allZero (drop-take n (at + modelRoom - at) (drop at s) ∙ ap (take (at + modelRoom - at - n)) (drop-drop n at s) ∙ ap (λ (m : ℕ). take m (drop (at + n) s)) b)))
+
+-- no model
+zeros-behind : (l : List ℕ) → allZero l ≡ true → zerosBehind l ≡ true
+unfolding allZero zerosBehind
+zeros-behind [] e = refl
+zeros-behind (zero ∷ l) e = e
+zeros-behind (suc b ∷ l) e =
+    let q = rw (ne-eqb (suc b) 0 (λ z. omega arith)) at e in
+    let z : _≡_ {A = ℕ} 0 1 = cc in
+    absurd (omega arith)
+
+pub model-none : (s : List ℕ) → atPendingLength ≤ length s → allZero (part s atModel atPendingLength) ≡ true → allFine (modelFields s) ≡ true
+model-none s h e = and-true _ ∙ zeros-behind (bytesAt modelRoom s atModel) (ap allZero (part-is modelRoom s atModel h) ∙ e)
 
 -- ---- the check as a chain of its groups
 

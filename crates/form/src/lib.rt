@@ -1,7 +1,8 @@
 // Which bytes are a board record: one function for each group of fields, in record order.
 ghost use mathlib.Core.Path.{_≡_};
 ghost use mathlib.Core.Bool.{true, false};
-ghost use Prim.Native.Nat.{_+_, _*_, _≤_};
+ghost use mathlib.Core.List.{_++_};
+ghost use Prim.Native.Nat.{_+_, _*_, _≤_, _<_};
 ghost use lib.ListN.{length, take, drop};
 ghost use Rattle.wire.specs.Numbers.{bytesAt};
 ghost use Rattle.wire.specs.Ranges.{fits};
@@ -11,22 +12,25 @@ ghost use Rattle.wire.specs.Serial.{serial};
 ghost use Rattle.peak.specs.Pairs.{pairFits, pairAt};
 ghost use Rattle.record.specs.Layout.{recordSize, channels, nameRoom, modelRoom, atCode, atInputs, atOutputs, atNameLength, atModel, atPairs};
 ghost use Rattle.record.specs.Limits.{nameRange};
-ghost use Rattle.record.specs.Form.{several, allFine, formOf};
+ghost use Rattle.record.specs.Form.{partFits, several, allFine, formOf};
+ghost use Rattle.low.specs.Low.{lowBytes};
 ghost use Rattle.form.specs.Groups.{headFields, radioFields, inputFields, switchFields, nameFields, pendingFields, pairFields};
 use buffer::heads::announced_by;
 use limits::INPUT_TYPE_MOST;
 use limits::MODE_MOST;
-use limits::NAME_BYTE_MOST;
 use limits::ON_OFF_MOST;
 use limits::STEP_MOST;
 use limits::interval_fits;
 use limits::power_fits;
+use low::all_zero;
+use low::eight_at;
 use numbers::half_at;
 use numbers::word_at;
 use numbers::zeros::first_zero;
 use numbers::zeros::zeros;
-use peak::finite_float;
-use peak::is_finite;
+use peak::INFINITY;
+use peak::above;
+use peak::reach;
 use record::Form;
 use record::places::AT_FILTER;
 use record::places::AT_FLAGS;
@@ -46,6 +50,7 @@ use record::places::AT_SIZE;
 use record::places::AT_STEP;
 use record::places::AT_TRIES;
 use record::places::AT_VERSION;
+use record::places::CHANNELS;
 use record::places::FILTERS;
 use record::places::MODEL_ROOM;
 use record::places::NAME_ROOM;
@@ -55,6 +60,8 @@ use record::places::SIZE_FIELD;
 use record::places::VERSION;
 use wire::Announced;
 use wire::Line;
+
+const PAIRS: usize = CHANNELS as usize;
 
 fn head_fine(s: &[u8]) -> bool
     requires { ⌜ atCode ≤ length (now s) ⌝ }
@@ -93,26 +100,22 @@ fn switches_fine(s: &[u8]) -> bool
     (s[AT_OUTPUTS] < 16) & interval & (word_at(s, AT_FILTER) < FILTERS)
 }
 
-// Whether the whole room of the name holds bytes that may stand in one: zeros behind it may.
-fn name_room(p: &[u8]) -> bool
-    requires { ⌜ length (now p) ≡ nameRoom ⌝ }
-    ensures { λ r. ⌜ r ≡ fits (nameRange (bytesAt nameRoom (now (p .entry)) 0)) ⌝ }
+// Whether n bytes of a name are followed by zeros alone, and none is above 7F; zeros are not, so all fifteen bytes are looked at.
+// The first eight are one word, the other seven another.
+fn name_words(low: u64, high: u64, n: usize) -> bool
+    requires { ⌜ (n ≤ nameRoom) × (high < 0x100000000000000) ⌝ }
+    ensures { λ r. ⌜ r ≡ partFits (λ l. fits (nameRange l)) n (lowBytes 8 low ++ lowBytes 7 high) ⌝ }
 {
-    (p[0] <= NAME_BYTE_MOST)
-        & (p[1] <= NAME_BYTE_MOST)
-        & (p[2] <= NAME_BYTE_MOST)
-        & (p[3] <= NAME_BYTE_MOST)
-        & (p[4] <= NAME_BYTE_MOST)
-        & (p[5] <= NAME_BYTE_MOST)
-        & (p[6] <= NAME_BYTE_MOST)
-        & (p[7] <= NAME_BYTE_MOST)
-        & (p[8] <= NAME_BYTE_MOST)
-        & (p[9] <= NAME_BYTE_MOST)
-        & (p[10] <= NAME_BYTE_MOST)
-        & (p[11] <= NAME_BYTE_MOST)
-        & (p[12] <= NAME_BYTE_MOST)
-        & (p[13] <= NAME_BYTE_MOST)
-        & (p[14] <= NAME_BYTE_MOST)
+    if low & 0x8080808080808080 != 0 {
+        return false;
+    }
+    if high & 0x80808080808080 != 0 {
+        return false;
+    }
+    if n < 8 {
+        return (low >> 8 * n == 0) & (high == 0);
+    }
+    high >> 8 * (n - 8) == 0
 }
 
 fn name_fine(s: &[u8]) -> bool
@@ -123,10 +126,9 @@ fn name_fine(s: &[u8]) -> bool
     if NAME_ROOM < n {
         return false;
     }
-    if name_room(&s[AT_NAME..AT_MODEL]) {
-        return zeros(s, AT_NAME + n, AT_MODEL);
-    }
-    false
+    let low = eight_at(s, AT_NAME);
+    let high = eight_at(s, AT_MODEL - 8) / 256;
+    name_words(low, high, n)
 }
 
 // Whether a model stands at a place: all zero from its first zero.
@@ -173,50 +175,23 @@ fn pending_fine(s: &[u8]) -> bool
     false
 }
 
-// Whether a pair is none: both patterns zero.
-fn pair_none(s: &[u8], at: usize) -> bool
-    requires { ⌜ at + 8 ≤ length (now s) ⌝ }
-    ensures { λ r. ⌜ r ≡ pairFits false (pairAt (now (s .entry)) at) ⌝ }
+// Whether the pairs from a place on are finite, with the smallest value not above the greatest.
+fn pairs_seen(s: &[u8], from: usize) -> bool
+    requires { ⌜ from + channels * 8 ≤ length (now s) ⌝ }
+    ensures { λ r. ⌜ r ≡ allFine (several channels 8 (λ k. pairFits true (pairAt (now (s .entry)) (from + k))) from 0) ⌝ }
 {
-    (word_at(s, at) == 0) & (word_at(s, at + 4) == 0)
-}
-
-// Whether a pair is finite, and its smallest value not above its greatest.
-fn pair_seen(s: &[u8], at: usize) -> bool
-    requires { ⌜ at + 8 ≤ length (now s) ⌝ }
-    ensures { λ r. ⌜ r ≡ pairFits true (pairAt (now (s .entry)) at) ⌝ }
-{
-    let greatest = word_at(s, at);
-    let smallest = word_at(s, at + 4);
-    if !(is_finite(greatest) & is_finite(smallest)) {
-        return false;
+    let mut most = 0;
+    let mut i = 0;
+    while i < PAIRS {
+        let greatest = word_at(s, from + 8 * i);
+        let smallest = word_at(s, from + 8 * i + 4);
+        if above(smallest, greatest) {
+            return false;
+        }
+        most = reach(reach(most, greatest), smallest);
+        i += 1;
     }
-    let below = finite_float(greatest) < finite_float(smallest);
-    !below
-}
-
-fn pairs_none(s: &[u8], at: usize) -> bool
-    requires { ⌜ at + channels * 8 ≤ length (now s) ⌝ }
-    ensures { λ r. ⌜ r ≡ allFine (several channels 8 (λ k. pairFits false (pairAt (now (s .entry)) (at + k))) at 0) ⌝ }
-{
-    pair_none(s, at)
-        & pair_none(s, at + 8)
-        & pair_none(s, at + 16)
-        & pair_none(s, at + 24)
-        & pair_none(s, at + 32)
-        & pair_none(s, at + 40)
-}
-
-fn pairs_seen(s: &[u8], at: usize) -> bool
-    requires { ⌜ at + channels * 8 ≤ length (now s) ⌝ }
-    ensures { λ r. ⌜ r ≡ allFine (several channels 8 (λ k. pairFits true (pairAt (now (s .entry)) (at + k))) at 0) ⌝ }
-{
-    pair_seen(s, at)
-        & pair_seen(s, at + 8)
-        & pair_seen(s, at + 16)
-        & pair_seen(s, at + 24)
-        & pair_seen(s, at + 32)
-        & pair_seen(s, at + 40)
+    most < INFINITY
 }
 
 fn pairs_fine(s: &[u8]) -> bool
@@ -226,7 +201,7 @@ fn pairs_fine(s: &[u8]) -> bool
     if s[AT_FLAGS] / 8 % 2 == 1 {
         return pairs_seen(s, AT_PAIRS);
     }
-    pairs_none(s, AT_PAIRS)
+    all_zero(s, AT_PAIRS, RECORD_SIZE)
 }
 
 pub fn form_of(s: &[u8]) -> Form
@@ -250,11 +225,16 @@ pub fn form_of(s: &[u8]) -> Form
     if !name_fine(s) {
         return Form::Bad;
     }
-    if !model_fine(s, AT_MODEL) {
-        return Form::Bad;
+    // Mostly there is no model and nothing waits, and then no bytes are looked at one by one.
+    if !all_zero(s, AT_MODEL, AT_PENDING_LENGTH) {
+        if !model_fine(s, AT_MODEL) {
+            return Form::Bad;
+        }
     }
-    if !pending_fine(s) {
-        return Form::Bad;
+    if !all_zero(s, AT_PENDING_LENGTH, AT_PAIRS) {
+        if !pending_fine(s) {
+            return Form::Bad;
+        }
     }
     if !pairs_fine(s) {
         return Form::Bad;

@@ -11,8 +11,9 @@ use call::Answer;
 use call::Ending;
 use call::ended;
 use form::form_of;
-use reading::peaks::finite_sample;
+use reading::peaks::finite_values;
 use reading::peaks::take_reading;
+use reading::peaks::values_of;
 use record::Form;
 
 // A reading of six channels, and its measuring frame.
@@ -74,10 +75,11 @@ pub fn answer_samples(rec: &mut [u8], sample: &[u8], out: &mut [u8]) -> Answer
     if out.len() < MEASURING_SIZE {
         return ended(Ending::NoRoom);
     }
-    if !finite_sample(sample) {
+    let x = values_of(sample);
+    if !finite_values(x) {
         return ended(Ending::NotFinite);
     }
-    if take_reading(rec, sample) {
+    if take_reading(rec, x, sample) {
         put_measuring_frame(out, sample);
         return Answer {
             result: 0,

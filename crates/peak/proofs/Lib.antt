@@ -1,2 +1,3 @@
+pub mod Patterns
 pub mod PairLaws
 pub mod Order

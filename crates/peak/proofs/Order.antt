@@ -12,15 +12,9 @@ use lib.Ieee.{Float, nan, inf, fin, binary32, up, down, odd, ofFields, ofBits, t
 use lib.Ieee.Fits.{down-pos}
 use lib.Ieee.Bits.{nanBits-is, nanBits-above, toBits-ofBits}
 use lib.Ieee.Exact.{HasValue, odd-sign}
-use Rattle.peak.specs.Pairs.{finite, key, less, Pair, seen, pairFits}
-use Rattle.peak.specs.Floats.{bitsOf, floatOf, peakOf, seenFloat}
-
-split : (a b : ℕ) → (a < b) ⊎ (b ≤ a)
-split a b = go (ltb a b) refl
-  where
-    go : (t : Bool) → ltb a b ≡ t → (a < b) ⊎ (b ≤ a)
-    go true e = inl (ltb-true a b e)
-    go false e = inr (ltb-false a b e)
+use Rattle.peak.specs.Pairs.{finite, key, less}
+use Rattle.peak.specs.Floats.{bitsOf, floatOf}
+use Rattle.peak.proofs.Patterns.{split, alike}
 
 -- a finite pattern is no NaN's
 pub no-nan : (n : ℕ) → finite n ≡ true → T (not (nanBits binary32 n))
@@ -217,27 +211,20 @@ by-key a b A B = go (split a 0x80000000) (split b 0x80000000)
         forth (inr h) k = some (val m) (val n) (up-to m h)
         forth (inl p) k = some′ (val m) (val n) (up-to n (other m n p k))
 
-    both : (p q r s : ℕ) → (p < q → r < s) → (q ≤ p → s ≤ r) → ltb p q ≡ ltb r s
-    both p q r s f g = at (split p q)
-      where
-        at : (p < q) ⊎ (q ≤ p) → ltb p q ≡ ltb r s
-        at (inl h) = lt-ltb p q h ∙ sym (lt-ltb r s (f h))
-        at (inr h) = le-ltb p q h ∙ sym (le-ltb r s (g h))
-
     go : (a < 0x80000000) ⊎ (0x80000000 ≤ a) → (b < 0x80000000) ⊎ (0x80000000 ≤ b)
         → below (leb 0x80000000 a) (val (a % 0x80000000)) (leb 0x80000000 b) (val (b % 0x80000000)) ≡ ltb (cond (ltb a 0x80000000) (0x80000000 + a) (0x100000000 - a)) (cond (ltb b 0x80000000) (0x80000000 + b) (0x100000000 - b))
     go (inl h) (inl k) =
         simp (lt-leb 0x80000000 a h, lt-leb 0x80000000 b k, lt-ltb a 0x80000000 h, lt-ltb b 0x80000000 k, pos-size a h, pos-size b k)
-        (val-test a b ∙ both a b (0x80000000 + a) (0x80000000 + b) (λ l. omega arith) (λ l. omega arith))
+        (val-test a b ∙ alike a b (0x80000000 + a) (0x80000000 + b) (λ l. omega arith) (λ l. omega arith))
     go (inl h) (inr k) =
         simp (lt-leb 0x80000000 a h, le-leb 0x80000000 b k, lt-ltb a 0x80000000 h, le-ltb b 0x80000000 k)
         (sym (le-ltb (0x80000000 + a) (0x100000000 - b) (omega arith)))
     go (inr h) (inl k) =
         simp (le-leb 0x80000000 a h, lt-leb 0x80000000 b k, le-ltb a 0x80000000 h, lt-ltb b 0x80000000 k, neg-size a h A, pos-size b k)
-        (some-lt (a - 0x80000000) b ∙ both 0 (a - 0x80000000 + b) (0x100000000 - a) (0x80000000 + b) (λ l. omega arith) (λ l. omega arith))
+        (some-lt (a - 0x80000000) b ∙ alike 0 (a - 0x80000000 + b) (0x100000000 - a) (0x80000000 + b) (λ l. omega arith) (λ l. omega arith))
     go (inr h) (inr k) =
         simp (le-leb 0x80000000 a h, le-leb 0x80000000 b k, le-ltb a 0x80000000 h, le-ltb b 0x80000000 k, neg-size a h A, neg-size b k B)
-        (val-test (b - 0x80000000) (a - 0x80000000) ∙ both (b - 0x80000000) (a - 0x80000000) (0x100000000 - a) (0x100000000 - b) (λ l. omega arith) (λ l. omega arith))
+        (val-test (b - 0x80000000) (a - 0x80000000) ∙ alike (b - 0x80000000) (a - 0x80000000) (0x100000000 - a) (0x100000000 - b) (λ l. omega arith) (λ l. omega arith))
 
 -- `a < b` of two finite `f32` is a comparison of whole numbers
 pub less-is : (a b : ℕ) → a < 0x100000000 → b < 0x100000000 → finite a ≡ true → finite b ≡ true → lt (ofBits binary32 a) (ofBits binary32 b) ≡ less a b
@@ -263,28 +250,3 @@ float-number n h = rw (float-is n h, ← nanBits-is binary32 n) (no-nan n h)
 -- the order of two finite patterns' floats
 pub floats-less : (a b : ℕ) → a < 0x100000000 → b < 0x100000000 → finite a ≡ true → finite b ≡ true → lt (floatOf a) (floatOf b) ≡ less a b
 floats-less a b A B h k = rw (float-is a h, float-is b k) (less-is a b A B h k)
-
-cond-of : (b : Bool) (x y : ℕ) → cond b (floatOf x) (floatOf y) ≡ floatOf (cond b x y)
-cond-of true x y = refl
-cond-of false x y = refl
-
--- the code's choice on floats is the definition's on patterns
-pub seen-is : (p : Pair) (x : ℕ) → p .greatest < 0x100000000 → p .smallest < 0x100000000 → x < 0x100000000
-    → finite (p .greatest) ≡ true → finite (p .smallest) ≡ true → finite x ≡ true → seenFloat (peakOf p) (floatOf x) ≡ peakOf (seen true p x)
-seen-is p x A B X a b f = simp (floats-less (p .greatest) x A X a f, floats-less x (p .smallest) X B f b, cond-of)
-
-not-less : (a b : ℕ) → not (ltb a b) ≡ leb b a
-not-less a b = go (ltb a b) refl
-  where
-    go : (t : Bool) → ltb a b ≡ t → not t ≡ leb b a
-    go true e = sym (lt-leb b a (ltb-true a b e))
-    go false e = sym (le-leb b a (ltb-false a b e))
-
--- the check of a pair on floats
-pub pair-test : (g s : ℕ) → g < 0x100000000 → s < 0x100000000 → ((finite g && finite s) && not (lt (floatOf g) (floatOf s))) ≡ pairFits true (record { greatest = g; smallest = s })
-pair-test g s G S = go (finite g) (finite s) refl refl
-  where
-    go : (a b : Bool) → finite g ≡ a → finite s ≡ b → ((a && b) && not (lt (floatOf g) (floatOf s))) ≡ ((a && b) && leb (key s) (key g))
-    go true true p q = rw (floats-less g s G S p q) (not-less (key g) (key s))
-    go true false p q = refl
-    go false b p q = refl

@@ -1,8 +1,8 @@
--- Inner contract: the floats that patterns stand for, which is what the code works on. No promise of a call speaks of them.
+-- Inner contract: the floats that patterns stand for, which is how code holds a pair. No promise of a call speaks of them.
 use Prim.Native.Nat.{ℕ}
-use mathlib.Core.Bool.{cond}
-use lib.Ieee.{Float, binary32, lt, ofBits, toBits}
-use Rattle.peak.specs.Pairs.{finite, Pair}
+use mathlib.Core.Bool.{Bool, true, false, cond}
+use lib.Ieee.{Float, binary32, ofBits, toBits}
+use Rattle.peak.specs.Pairs.{finite, less, Pair}
 use Rattle.peak.specs.declared.Peak.{Peak}
 
 -- the float of a finite pattern, and +0 for any other
@@ -17,6 +17,11 @@ bitsOf f = toBits binary32 f
 abbrev pub peakOf : Pair → Peak
 peakOf p = record { greatest = floatOf (p .greatest); smallest = floatOf (p .smallest) }
 
--- one more reading, on floats
-abbrev pub seenFloat : Peak → Float → Peak
-seenFloat p x = record { greatest = cond (lt (p .greatest) x) x (p .greatest); smallest = cond (lt x (p .smallest)) x (p .smallest) }
+-- whether a reading becomes the greatest value, the smallest value
+abbrev pub raised : Bool → Peak → ℕ → Bool
+raised false p x = true
+raised true p x = less (bitsOf (p .greatest)) x
+
+abbrev pub lowered : Bool → Peak → ℕ → Bool
+lowered false p x = true
+lowered true p x = less x (bitsOf (p .smallest))

@@ -1,10 +1,11 @@
-// Peaks: patterns to floats and back, and a pair updated by strict comparison.
+// Peaks: the greatest and the smallest value of a channel. Values are compared by their patterns as whole numbers, and nothing is computed in floats.
 ghost use mathlib.Core.Path.{_≡_};
 ghost use mathlib.Core.Bool.{true, not, cond};
-ghost use lib.Dec.{T};
-ghost use lib.Ieee.{lt, isNan};
-ghost use Rattle.peak.specs.Pairs.{finite};
-ghost use Rattle.peak.specs.Floats.{floatOf, bitsOf, seenFloat};
+ghost use Prim.Native.Nat.{_+_, _%_, max};
+ghost use lib.Dec.{T, leb};
+ghost use lib.Ieee.{isNan};
+ghost use Rattle.peak.specs.Pairs.{finite, less};
+ghost use Rattle.peak.specs.Floats.{floatOf, bitsOf, raised, lowered};
 
 // The greatest and the smallest value of a channel.
 pub struct Peak {
@@ -12,24 +13,18 @@ pub struct Peak {
     pub smallest: f32,
 }
 
-// Whether a pattern is that of a finite number.
-pub fn is_finite(x: u32) -> bool
-    ensures { λ r. ⌜ r ≡ finite x ⌝ }
+// The pattern of the infinity: without their sign those of finite numbers are below it.
+pub const INFINITY: u32 = 0x7F800000;
+
+// The greater of a number and a pattern without its sign. Over many patterns it stays below INFINITY as long as all are finite.
+pub fn reach(most: u32, x: u32) -> u32
+    ensures { λ r. ⌜ r ≡ max most (x % 0x80000000) ⌝ }
 {
-    x % 0x80000000 < 0x7F800000
+    let size = x % 0x80000000;
+    if most < size { size } else { most }
 }
 
-// The float of a finite pattern, +0 for any other, so that no caller owes anything.
-pub fn float_of(x: u32) -> f32
-    ensures { λ r. ⌜ r ≡ floatOf x ⌝ }
-{
-    if x % 0x80000000 < 0x7F800000 {
-        return f32::from_bits(x);
-    }
-    0.0
-}
-
-// The float of a finite pattern, with no test.
+// The float of a finite pattern.
 pub fn finite_float(x: u32) -> f32
     requires { ⌜ finite x ≡ true ⌝ }
     ensures { λ r. ⌜ r ≡ floatOf x ⌝ }
@@ -45,25 +40,71 @@ pub fn bits_of(f: f32) -> u32
     f32::to_bits(f)
 }
 
-// x where it is strictly greater.
-fn greater(kept: f32, x: f32) -> f32
-    ensures { λ r. ⌜ r ≡ cond (lt kept x) x kept ⌝ }
+// Whether a pattern has its sign bit, so that it lies no nearer to 0 than to 2 ^ 32: a test of the bit itself would make the compiler read the pattern byte by byte.
+fn negative(x: u32) -> bool
+    ensures { λ r. ⌜ r ≡ leb 0x80000000 x ⌝ }
 {
-    if kept < x { x } else { kept }
+    let w = x as u64;
+    0x100000000 - w <= w
 }
 
-// x where it is strictly smaller.
-fn smaller(kept: f32, x: f32) -> f32
-    ensures { λ r. ⌜ r ≡ cond (lt x kept) x kept ⌝ }
+// The pattern with its sign bit turned round: those of numbers below zero come first.
+fn turned(x: u32) -> u32
+    ensures { λ r. ⌜ r ≡ (x + 0x80000000) % 0x100000000 ⌝ }
 {
-    if x < kept { x } else { kept }
+    std::num::wrapping_add_u32(x, 0x80000000)
 }
 
-// The pair after one more reading.
-pub fn seen_next(p: Peak, x: f32) -> Peak
-    ensures { λ r. ⌜ r ≡ seenFloat p x ⌝ }
+// Whether x is strictly greater than y: of patterns below zero the smaller one is, and neither of the two zeros.
+pub fn above(x: u32, y: u32) -> bool
+    ensures { λ r. ⌜ r ≡ less y x ⌝ }
 {
-    let greatest = greater(p.greatest, x);
-    let smallest = smaller(p.smallest, x);
-    Peak { greatest, smallest }
+    if negative(x) {
+        return x < y;
+    }
+    if turned(y) < turned(x) {
+        if x == 0 {
+            return 0x80000000 < y;
+        }
+        return true;
+    }
+    false
+}
+
+// Whether x is strictly smaller than y.
+pub fn below(x: u32, y: u32) -> bool
+    ensures { λ r. ⌜ r ≡ less x y ⌝ }
+{
+    if negative(x) {
+        if y < x {
+            if x == 0x80000000 {
+                return y != 0;
+            }
+            return true;
+        }
+        return false;
+    }
+    turned(x) < turned(y)
+}
+
+// Whether a reading becomes the greatest value: the first one does, later a strictly greater one.
+pub fn raises(seen: bool, p: Peak, x: u32) -> bool
+    requires { ⌜ T (not (isNan (p .greatest))) ⌝ }
+    ensures { λ r. ⌜ r ≡ raised seen p x ⌝ }
+{
+    if seen {
+        return above(x, bits_of(p.greatest));
+    }
+    true
+}
+
+// Whether a reading becomes the smallest value.
+pub fn lowers(seen: bool, p: Peak, x: u32) -> bool
+    requires { ⌜ T (not (isNan (p .smallest))) ⌝ }
+    ensures { λ r. ⌜ r ≡ lowered seen p x ⌝ }
+{
+    if seen {
+        return below(x, bits_of(p.smallest));
+    }
+    true
 }

@@ -3,9 +3,7 @@ use peak::Peak;
 
 pub mod peaks;
 
-// What a reading goes by.
+// What a reading is held against.
 pub struct Decoded {
-    pub reading: bool,
-    pub sending: bool,
     pub peaks: [Peak; 6],
 }

@@ -1,47 +1,54 @@
-// A reading taken into a record: its pairs decoded, updated and put back.
+// A reading taken into a record: its pairs decoded, held against the values, and what these replace stored.
 ghost use mathlib.Core.Path.{_≡_};
-ghost use mathlib.Core.Bool.{true, cond};
-ghost use mathlib.Core.List.{_++_};
+ghost use mathlib.Core.Bool.{true};
 ghost use Prim.Native.Nat.{_+_, _*_, _≤_, _<_};
 ghost use lib.ListN.{length};
-ghost use lib.Seq.{sets};
-ghost use Rattle.wire.specs.Numbers.{wordAt, bytes4};
+ghost use Rattle.wire.specs.Numbers.{wordAt, bytesAt};
 ghost use Rattle.peak.specs.Pairs.{finite, allFinite, pairAt};
-ghost use Rattle.peak.specs.Floats.{floatOf, peakOf};
-ghost use Rattle.record.specs.Layout.{channels, atFlags, bytesOf, recordOf};
+ghost use Rattle.peak.specs.Floats.{peakOf};
+ghost use Rattle.record.specs.Layout.{channels, bytesOf, recordOf};
 ghost use Rattle.record.specs.InPlace.{Sound};
 ghost use Rattle.record.specs.Reading.{readingOf};
-ghost use Rattle.reading.specs.Decoded.{decodedAt, There, Numbers, AllNumbers, seenPeak, afterReading, peakBytes, putBack};
+ghost use Rattle.reading.specs.Decoded.{decodedAt, There, Numbers, AllNumbers, wordsAt, finiteAll, stored, seenAt, seenUpTo};
 use crate::Decoded;
+use low::four_at;
+use low::put_four;
 use numbers::word_at;
+use peak::INFINITY;
 use peak::Peak;
-use peak::bits_of;
 use peak::finite_float;
-use peak::float_of;
-use peak::is_finite;
-use peak::seen_next;
+use peak::lowers;
+use peak::raises;
+use peak::reach;
 use record::places::AT_FLAGS;
 use record::places::AT_PAIRS;
 use record::places::READING;
 
-fn finite_at(sample: &[u8], at: usize) -> bool
-    requires { ⌜ at + 4 ≤ length (now sample) ⌝ }
-    ensures { λ r. ⌜ r ≡ finite (wordAt (now (sample .entry)) at) ⌝ }
+// The patterns of a reading, read once: they are looked at again behind stores to the record.
+pub fn values_of(sample: &[u8]) -> [u32; 6]
+    requires { ⌜ length (now sample) ≡ 4 * channels ⌝ }
+    ensures { λ r. ⌜ r ≡ wordsAt channels (now (sample .entry)) 0 ⌝ }
 {
-    is_finite(word_at(sample, at))
+    let a = word_at(sample, 0);
+    let b = word_at(sample, 4);
+    let c = word_at(sample, 8);
+    let d = word_at(sample, 12);
+    let e = word_at(sample, 16);
+    let f = word_at(sample, 20);
+    [a, b, c, d, e, f]
 }
 
-// Whether no channel is infinite or no number.
-pub fn finite_sample(sample: &[u8]) -> bool
-    requires { ⌜ length (now sample) ≡ 4 * channels ⌝ }
-    ensures { λ r. ⌜ r ≡ allFinite channels (now (sample .entry)) 0 ⌝ }
+// Whether no value is infinite or no number.
+pub fn finite_values(x: [u32; 6]) -> bool
+    ensures { λ r. ⌜ r ≡ finiteAll x ⌝ }
 {
-    finite_at(sample, 0)
-        & finite_at(sample, 4)
-        & finite_at(sample, 8)
-        & finite_at(sample, 12)
-        & finite_at(sample, 16)
-        & finite_at(sample, 20)
+    let mut most = 0;
+    let mut i = 0;
+    while i < 6 {
+        most = reach(most, x[i]);
+        i += 1;
+    }
+    most < INFINITY
 }
 
 fn peak_at(rec: &[u8], at: usize) -> Peak
@@ -66,103 +73,53 @@ fn decode(rec: &[u8], at: usize) -> Decoded
     let e = peak_at(rec, at + 32);
     let f = peak_at(rec, at + 40);
     Decoded {
-        reading: rec[AT_FLAGS] / 8 % 2 == 1,
-        sending: rec[AT_FLAGS] / 4 % 2 == 1,
         peaks: [a, b, c, d, e, f],
     }
 }
 
-// A pair after one more reading, whose value is at a place of the sample.
-fn seen_at(reading: bool, p: Peak, sample: &[u8], at: usize) -> Peak
-    requires { ⌜ at + 4 ≤ length (now sample) ⌝ }
-    ensures { λ r. ⌜ r ≡ seenPeak reading p (floatOf (wordAt (now (sample .entry)) at)) ⌝ }
+// Stores the four bytes of a value, if it is taken.
+fn put_if(taken: bool, rec: &mut [u8], at: usize, sample: &[u8], from: usize)
+    requires { ⌜ (at + 4 ≤ length (now rec)) × (from + 4 ≤ length (now sample)) ⌝ }
+    ensures { λ _. ⌜ now (rec .exit) ≡ stored taken (now (rec .entry)) at (bytesAt 4 (now (sample .entry)) from) ⌝ }
 {
-    let x = float_of(word_at(sample, at));
-    if reading {
-        return seen_next(p, x);
-    }
-    Peak {
-        greatest: x,
-        smallest: x,
+    if taken {
+        put_four(rec, at, four_at(sample, from));
     }
 }
 
-fn after_reading(was: Decoded, sample: &[u8]) -> Decoded
-    requires { ⌜ length (now sample) ≡ 4 * channels ⌝ }
-    ensures { λ r. ⌜ r ≡ afterReading was (now (sample .entry)) ⌝ }
-{
-    let reading = was.reading;
-    let p = was.peaks;
-    let a = seen_at(reading, p[0], sample, 0);
-    let b = seen_at(reading, p[1], sample, 4);
-    let c = seen_at(reading, p[2], sample, 8);
-    let d = seen_at(reading, p[3], sample, 12);
-    let e = seen_at(reading, p[4], sample, 16);
-    let f = seen_at(reading, p[5], sample, 20);
-    Decoded {
-        reading: true,
-        sending: was.sending,
-        peaks: [a, b, c, d, e, f],
-    }
-}
-
-fn put_word(rec: &mut [u8], at: usize, w: u32)
-    requires { ⌜ at + 4 ≤ length (now rec) ⌝ }
-    ensures { λ _. ⌜ now (rec .exit) ≡ sets (now (rec .entry)) at (bytes4 w) ⌝ }
-{
-    rec[at] = (w / 16777216 % 256) as u8;
-    rec[at + 1] = (w / 65536 % 256) as u8;
-    rec[at + 2] = (w / 256 % 256) as u8;
-    rec[at + 3] = (w % 256) as u8;
-}
-
-fn put_peak(rec: &mut [u8], at: usize, p: Peak)
-    requires { ⌜ at + 8 ≤ length (now rec) ⌝ }
+// One channel: its pair at a place of the record, its value at a place of the sample.
+fn see(seen: bool, rec: &mut [u8], at: usize, p: Peak, x: u32, sample: &[u8], from: usize)
+    requires { ⌜ (at + 8 ≤ length (now rec)) × (from + 4 ≤ length (now sample)) ⌝ }
     requires { ⌜ Numbers p ⌝ }
-    ensures { λ _. ⌜ now (rec .exit) ≡ sets (now (rec .entry)) at (peakBytes p) ⌝ }
+    ensures { λ _. ⌜ now (rec .exit) ≡ seenAt seen p x (bytesAt 4 (now (sample .entry)) from) (now (rec .entry)) at ⌝ }
 {
-    put_word(rec, at, bits_of(p.greatest));
-    put_word(rec, at + 4, bits_of(p.smallest));
+    put_if(raises(seen, p, x), rec, at, sample, from);
+    put_if(lowers(seen, p, x), rec, at + 4, sample, from);
 }
 
-fn put_three(rec: &mut [u8], at: usize, a: Peak, b: Peak, c: Peak)
-    requires { ⌜ at + 24 ≤ length (now rec) ⌝ }
-    requires { ⌜ Numbers a × Numbers b × Numbers c ⌝ }
-    ensures { λ _. ⌜ now (rec .exit) ≡ sets (now (rec .entry)) at (peakBytes a ++ (peakBytes b ++ peakBytes c)) ⌝ }
+fn see_all(seen: bool, rec: &mut [u8], at: usize, was: Decoded, x: [u32; 6], sample: &[u8])
+    requires { ⌜ (at + channels * 8 ≤ length (now rec)) × (length (now sample) ≡ 4 * channels) ⌝ }
+    requires { ⌜ AllNumbers (was .peaks) ⌝ }
+    ensures { λ _. ⌜ now (rec .exit) ≡ seenUpTo channels seen (was .peaks) x (now (sample .entry)) (now (rec .entry)) at ⌝ }
 {
-    put_peak(rec, at, a);
-    put_peak(rec, at + 8, b);
-    put_peak(rec, at + 16, c);
-}
-
-// The reading flag in its bit.
-fn flag_of(reading: bool) -> u8
-    ensures { λ r. ⌜ (r ≡ cond reading 8 0) × (r ≤ 8) ⌝ }
-{
-    if reading { READING } else { 0 }
-}
-
-// The reading flag, and the pairs from a place on.
-fn put_back(rec: &mut [u8], at: usize, d: Decoded)
-    requires { ⌜ (atFlags < length (now rec)) × (at + channels * 8 ≤ length (now rec)) ⌝ }
-    requires { ⌜ AllNumbers (d .peaks) ⌝ }
-    ensures { λ _. ⌜ now (rec .exit) ≡ putBack at d (now (rec .entry)) ⌝ }
-{
-    let p = d.peaks;
-    rec[AT_FLAGS] |= flag_of(d.reading);
-    put_three(rec, at, p[0], p[1], p[2]);
-    put_three(rec, at + 24, p[3], p[4], p[5]);
+    let p = was.peaks;
+    let mut k = 0;
+    while k < 6 {
+        see(seen, rec, at + 8 * k, p[k], x[k], sample, 4 * k);
+        k += 1;
+    }
 }
 
 // Takes a reading of finite values, and returns whether measuring frames are sent.
-pub fn take_reading(rec: &mut [u8], sample: &[u8]) -> bool
+pub fn take_reading(rec: &mut [u8], x: [u32; 6], sample: &[u8]) -> bool
     requires { ⌜ Sound (now rec) ⌝ }
-    requires { ⌜ length (now sample) ≡ 4 * channels ⌝ }
+    requires { ⌜ (length (now sample) ≡ 4 * channels) × (x ≡ wordsAt channels (now sample) 0) ⌝ }
     requires { ⌜ allFinite channels (now sample) 0 ≡ true ⌝ }
     ensures { λ sending. ⌜ (sending ≡ recordOf (now (rec .entry)) .flags .sending) × (now (rec .exit) ≡ bytesOf (readingOf (recordOf (now (rec .entry))) (now (sample .entry)))) ⌝ }
 {
+    let flags = rec[AT_FLAGS];
+    rec[AT_FLAGS] = flags | READING;
     let was = decode(rec, AT_PAIRS);
-    let sending = was.sending;
-    put_back(rec, AT_PAIRS, after_reading(was, sample));
-    sending
+    see_all(flags / 8 % 2 == 1, rec, AT_PAIRS, was, x, sample);
+    flags / 4 % 2 == 1
 }

@@ -2,56 +2,11 @@
 ghost use mathlib.Core.Path.{_≡_};
 ghost use Prim.Native.Nat.{_+_, _-_, _≤_, _<_};
 ghost use lib.ListN.{length, replicate};
-ghost use Rattle.wire.specs.Numbers.{bytesAt, put};
-ghost use Rattle.words.specs.Words.{lowBytes};
-
-fn half_wide(b: u8) -> u32
-    ensures { λ r. ⌜ (r ≡ b) × (r < 256) ⌝ }
-{
-    b as u32
-}
-
-// Four bytes as a number, low byte first, so that the compiler makes one load of them.
-fn four_at(s: &[u8], at: usize) -> u32
-    requires { ⌜ at + 4 ≤ length (now s) ⌝ }
-    ensures { λ r. ⌜ lowBytes 4 r ≡ bytesAt 4 (now (s .entry)) at ⌝ }
-{
-    half_wide(s[at])
-        + half_wide(s[at + 1]) * 0x100
-        + half_wide(s[at + 2]) * 0x10000
-        + half_wide(s[at + 3]) * 0x1000000
-}
-
-fn wide(w: u32) -> u64
-    ensures { λ r. ⌜ (r ≡ w) × (r < 0x100000000) ⌝ }
-{
-    w as u64
-}
-
-fn eight_at(s: &[u8], at: usize) -> u64
-    requires { ⌜ at + 8 ≤ length (now s) ⌝ }
-    ensures { λ r. ⌜ lowBytes 8 r ≡ bytesAt 8 (now (s .entry)) at ⌝ }
-{
-    wide(four_at(s, at)) + wide(four_at(s, at + 4)) * 0x100000000
-}
-
-fn put_four(buffer: &mut [u8], at: usize, w: u32)
-    requires { ⌜ at + 4 ≤ length (now buffer) ⌝ }
-    ensures { λ _. ⌜ now (buffer .exit) ≡ put (now (buffer .entry)) at (lowBytes 4 w) ⌝ }
-{
-    buffer[at] = (w % 256) as u8;
-    buffer[at + 1] = (w / 0x100 % 256) as u8;
-    buffer[at + 2] = (w / 0x10000 % 256) as u8;
-    buffer[at + 3] = (w / 0x1000000 % 256) as u8;
-}
-
-fn put_eight(buffer: &mut [u8], at: usize, w: u64)
-    requires { ⌜ at + 8 ≤ length (now buffer) ⌝ }
-    ensures { λ _. ⌜ now (buffer .exit) ≡ put (now (buffer .entry)) at (lowBytes 8 w) ⌝ }
-{
-    put_four(buffer, at, (w % 0x100000000) as u32);
-    put_four(buffer, at + 4, (w / 0x100000000) as u32);
-}
+ghost use Rattle.wire.specs.Numbers.{put};
+use low::eight_at;
+use low::four_at;
+use low::put_eight;
+use low::put_four;
 
 // Eight to 24 bytes by their first, last and, if these leave a gap, second eight.
 fn put_eights(buffer: &mut [u8], at: usize, part: &[u8]) -> usize

@@ -1,8 +1,10 @@
 -- `answer_samples`: the samples call leaves its outcome, whichever check refuses it or none, with sending on and off.
-use mathlib.Core.Path.{_≡_, refl, sym, _∙_}
+use mathlib.Core.Path.{_≡_, refl, sym, ap, _∙_}
 use mathlib.Core.Bool.{true}
 use borrow.Author.Tests.{not-true, not-false}
 use Rattle.peak.specs.Pairs.{allFinite}
+use Rattle.reading.specs.Decoded.{finiteAll}
+use Rattle.reading.proofs.Readings.{finite-all}
 use Rattle.record.specs.Form.{formOf}
 use Rattle.record.specs.declared.Form.the-variants.{Good}
 use Rattle.call.proofs.Ends.{good-sound}
@@ -14,8 +16,12 @@ use Rattle.measure.proofs.answer_samples.Tie as tie
 good : (c : tie.After-enum-told) → formOf (c .before .before .before .before .before .before .before .args .rec .now) ≡ Good
 good c = sym (c .before .before .form-of .ensures) ∙ c .enum-told .given .1
 
-finite : (c : tie.Else3) → allFinite 6 (c .before .before .before .before .before .before .before .before .before .before .before .args .sample .now) 0 ≡ true
-finite c = sym (c .before .finite-sample .ensures) ∙ not-false (c .before .finite-sample .result) (c .if3 .left)
+-- all values are finite exactly when those of the sample are
+all : (c : tie.After-finite-values) → c .finite-values .result ≡ allFinite 6 (c .before .before .before .before .before .before .before .before .before .before .before .args .sample .now) 0
+all c = c .finite-values .ensures ∙ ap finiteAll (c .before .values-of .ensures) ∙ finite-all 6 (c .before .before .before .before .before .before .before .before .before .before .before .args .sample .now) 0
+
+finite : (c : tie.Else3) → allFinite 6 (c .before .before .before .before .before .before .before .before .before .before .before .before .args .sample .now) 0 ≡ true
+finite c = sym (all (c .before)) ∙ not-false (c .before .finite-values .result) (c .if3 .left)
 
 form-of-requires : tie.Need-form-of-requires
 form-of-requires c κs = search needs
@@ -59,8 +65,11 @@ returns-3 c =
     let z = c .before .before .before .before .before .before .before .before .before .before .args in
     no-room (z .rec .now) (z .sample .now) (z .out .now) _ (good (c .before .before .before)) (c .before .before .if1 .left) (c .before .if2 .taken) (c .ended3 .ensures)
 
-finite-sample-requires : tie.Need-finite-sample-requires
-finite-sample-requires c κs = search needs
+values-of-requires : tie.Need-values-of-requires
+values-of-requires c κs = search needs
+
+finite-values-requires : tie.Need-finite-values-requires
+finite-values-requires c κs = search needs
 
 ended-requires-4 : tie.Need-ended-requires-4
 ended-requires-4 c κs = search needs
@@ -70,13 +79,13 @@ same-length-4 c = search needs
 
 returns-4 : tie.Need-returns-4
 returns-4 c =
-    let z = c .before .before .before .before .before .before .before .before .before .before .before .before .args in
-    not-finite (z .rec .now) (z .sample .now) (z .out .now) _ (good (c .before .before .before .before .before)) (c .before .before .before .before .if1 .left) (c .before .before .before .if2 .left) (sym (c .before .before .finite-sample .ensures) ∙ not-true (c .before .before .finite-sample .result) (c .before .if3 .taken)) (c .ended4 .ensures)
+    let z = c .before .before .before .before .before .before .before .before .before .before .before .before .before .args in
+    not-finite (z .rec .now) (z .sample .now) (z .out .now) _ (good (c .before .before .before .before .before .before)) (c .before .before .before .before .before .if1 .left) (c .before .before .before .before .if2 .left) (sym (all (c .before .before)) ∙ not-true (c .before .before .finite-values .result) (c .before .if3 .taken)) (c .ended4 .ensures)
 
 take-reading-requires : tie.Need-take-reading-requires
 take-reading-requires c κs =
-    let z = c .before .before .before .before .before .before .before .before .before .before .before .before .args in
-    (good-sound (z .rec .now) (λ i. c .before .before .before .before .before .before .before .before .before .before .before .slice-known .given i .fits) (good (c .before .before .before .before .before)), (c .before .before .before .before .if1 .left, finite (c .before)))
+    let z = c .before .before .before .before .before .before .before .before .before .before .before .before .before .args in
+    (good-sound (z .rec .now) (λ i. c .before .before .before .before .before .before .before .before .before .before .before .before .slice-known .given i .fits) (good (c .before .before .before .before .before .before)), ((c .before .before .before .before .before .if1 .left, c .before .before .before .values-of .ensures), finite (c .before)))
 
 put-measuring-frame-requires : tie.Need-put-measuring-frame-requires
 put-measuring-frame-requires c κs = search needs
@@ -89,9 +98,9 @@ same-length-6 c = search needs
 
 returns-5 : tie.Need-returns-5
 returns-5 c =
-    let z = c .before .before .before .before .before .before .before .before .before .before .before .before .before .before .before .before .before .before .before .before .args in
+    let z = c .before .before .before .before .before .before .before .before .before .before .before .before .before .before .before .before .before .before .before .before .before .args in
     let t = c .before .before .before .before .before .before .before .take-reading in
-    sent (z .rec .now) (z .sample .now) (z .out .now) _ (good (c .before .before .before .before .before .before .before .before .before .before .before .before .before)) (c .before .before .before .before .before .before .before .before .before .before .before .before .if1 .left) (c .before .before .before .before .before .before .before .before .before .before .before .if2 .left) (finite (c .before .before .before .before .before .before .before .before .before)) _ (t .ensures .1) (sym (t .ensures .0) ∙ c .before .before .before .before .if4 .taken) _ (c .before .before .put-measuring-frame .ensures) refl
+    sent (z .rec .now) (z .sample .now) (z .out .now) _ (good (c .before .before .before .before .before .before .before .before .before .before .before .before .before .before)) (c .before .before .before .before .before .before .before .before .before .before .before .before .before .if1 .left) (c .before .before .before .before .before .before .before .before .before .before .before .before .if2 .left) (finite (c .before .before .before .before .before .before .before .before .before)) _ (t .ensures .1) (sym (t .ensures .0) ∙ c .before .before .before .before .if4 .taken) _ (c .before .before .put-measuring-frame .ensures) refl
 
 ended-requires-5 : tie.Need-ended-requires-5
 ended-requires-5 c κs = search needs
@@ -101,9 +110,9 @@ same-length-7 c = search needs
 
 returns-6 : tie.Need-returns-6
 returns-6 c =
-    let z = c .before .before .before .before .before .before .before .before .before .before .before .before .before .before .before .before .before .args in
+    let z = c .before .before .before .before .before .before .before .before .before .before .before .before .before .before .before .before .before .before .args in
     let t = c .before .before .before .before .take-reading in
-    silent (z .rec .now) (z .sample .now) (z .out .now) _ (good (c .before .before .before .before .before .before .before .before .before .before)) (c .before .before .before .before .before .before .before .before .before .if1 .left) (c .before .before .before .before .before .before .before .before .if2 .left) (finite (c .before .before .before .before .before .before)) _ (t .ensures .1) (sym (t .ensures .0) ∙ c .before .if4 .left) (c .ended5 .ensures)
+    silent (z .rec .now) (z .sample .now) (z .out .now) _ (good (c .before .before .before .before .before .before .before .before .before .before .before)) (c .before .before .before .before .before .before .before .before .before .before .if1 .left) (c .before .before .before .before .before .before .before .before .before .if2 .left) (finite (c .before .before .before .before .before .before)) _ (t .ensures .1) (sym (t .ensures .0) ∙ c .before .if4 .left) (c .ended5 .ensures)
 
 pub answer-samples-spec : {M : Type 1} → statement M
 answer-samples-spec =
@@ -121,7 +130,8 @@ answer-samples-spec =
     ended-requires-3
     same-length-3
     returns-3
-    finite-sample-requires
+    values-of-requires
+    finite-values-requires
     ended-requires-4
     same-length-4
     returns-4

@@ -7,7 +7,7 @@ use mathlib.Core.Logic.{_⊎_, inl, inr, ⊎-elim}
 use mathlib.Core.List.{List}
 use lib.ListN.{length}
 use Rattle.wire.specs.Numbers.{put}
-use Rattle.words.specs.Words.{lowBytes}
+use Rattle.low.specs.Low.{lowBytes}
 use borrow.Author.Needs.{needs}
 use Rattle.words.proofs.clear_few.Statement.{statement}
 use Rattle.words.proofs.clear_few.Tie as tie

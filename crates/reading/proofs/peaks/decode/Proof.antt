@@ -38,14 +38,11 @@ add-peak-at-5 c = search needs
 peak-at-requires-6 : tie.Need-peak-at-requires-6
 peak-at-requires-6 c κs = let z = c .before .before .before .before .before .before in (omega (arith, z .pre .pairs), z .pre .numbers 5 (omega arith))
 
-shared-slice-read-t11 : tie.Need-shared-slice-read-t11
-shared-slice-read-t11 c = search needs
-
-shared-slice-read-t16 : tie.Need-shared-slice-read-t16
-shared-slice-read-t16 c = search needs
-
 returns : tie.Need-returns
-returns c = let e = six-decoded (c .before .before .before .before .before .before .before .before .before .args .rec .now) (c .before .before .before .before .before .before .before .before .before .args .at) in cc
+returns c =
+    let a = c .before .before .before .before .before .before .before .args in
+    let e = six-decoded (a .rec .now) (a .at) in
+    cc
 
 pub decode-spec : {M : Type 1} → statement M
 decode-spec =
@@ -62,6 +59,4 @@ decode-spec =
     peak-at-requires-5
     add-peak-at-5
     peak-at-requires-6
-    shared-slice-read-t11
-    shared-slice-read-t16
     returns)

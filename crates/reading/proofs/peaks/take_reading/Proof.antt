@@ -1,48 +1,51 @@
 -- `take_reading`: the record after a reading, with its flag.
-use mathlib.Core.Path.{_≡_, sym, ap, subst, _∙_}
-use Rattle.wire.specs.Numbers.{Bytes}
-use Rattle.record.specs.Layout.{atPairs, recordOf}
-use Rattle.reading.specs.Decoded.{decodedAt, AllNumbers, afterReading, putBack}
+use mathlib.Core.Path.{refl, sym, subst, _∙_}
+use native.Mathlib.Omega.{arith}
+use lib.ListN.{getD, length-set}
+use lib.Bits.{bitOr}
+use Rattle.record.specs.Layout.{atFlags, recordOf}
+use Rattle.reading.specs.Decoded.{AllNumbers}
 use Rattle.reading.specs.declared.Decoded.{Decoded}
-use Rattle.reading.proofs.Readings.{there, taken-numbers, taken}
-use borrow.Author.Needs.{needs}
+use Rattle.reading.proofs.Readings.{sound-long, there, all-numbers, taken}
 use Rattle.reading.proofs.peaks.take_reading.Statement.{statement}
 use Rattle.reading.proofs.peaks.take_reading.Tie as tie
 
-sample-bytes : (c : tie.After-shared-slice-known) → Bytes (c .before .before .args .sample .now)
-sample-bytes c i = c .shared-slice-known .given i .fits
+slice-read-flags : tie.Need-slice-read-flags
+slice-read-flags c = let z = c .before .before .before in omega (arith, sound-long (z .args .rec .now) (z .pre .0))
 
-after : (c : tie.After-after-reading) → let a = c .before .before .before .before .before .before .args in c .after-reading .result ≡ afterReading (decodedAt atPairs (a .rec .now)) (a .sample .now)
-after c = c .after-reading .ensures ∙ ap (λ (d : Decoded). afterReading d (c .before .before .before .before .before .before .args .sample .now)) (c .before .before .decode .ensures)
+slice-write-rec : tie.Need-slice-write-rec
+slice-write-rec c = let z = c .before .before .before in omega (arith, sound-long (z .args .rec .now) (z .pre .0))
 
 decode-requires : tie.Need-decode-requires
-decode-requires c κs = let z = c .before .before .before in there (z .args .rec .now) (z .pre .0)
+decode-requires c κs = let z = c .before .before .before .before in there (z .args .rec .now) (z .pre .0)
 
-after-reading-requires : tie.Need-after-reading-requires
-after-reading-requires c κs = search needs
-
-put-back-requires : tie.Need-put-back-requires
-put-back-requires c κs =
-    let z = c .before .before .before .before .before .before in (
-      (there (z .args .rec .now) (z .pre .0) .flags, there (z .args .rec .now) (z .pre .0) .pairs),
-      subst (λ (d : Decoded). AllNumbers (d .peaks)) (sym (after c)) (taken-numbers (z .args .rec .now) (z .args .sample .now) (z .pre .0) (sample-bytes (c .before .before .before .before)) (z .pre .1 .1)),
-    )
+see-all-requires : tie.Need-see-all-requires
+see-all-requires c κs =
+    let z = c .before .before .before .before .before .before in
+    let s = z .args .rec .now in
+    ((there s (z .pre .0) .pairs, z .pre .1 .0 .0), subst (λ (d : Decoded). AllNumbers (d .peaks)) (sym (c .before .decode .ensures)) (all-numbers s (z .pre .0)))
 
 same-length : tie.Need-same-length
-same-length c = search needs
+same-length c =
+    let z = c .before .before .before .before .before .before .before .before .before in
+    c .before .before .see-all .kept .1 .0 ∙ length-set (z .args .rec .now) atFlags (bitOr (getD (z .args .rec .now) atFlags 0) 8)
 
 returns : tie.Need-returns
 unfolding recordOf
 returns c =
-    let z = c .before .before .before .before .before .before .before .before .before in
-    let s = z .args .rec .now in (
-      ap (λ (d : Decoded). d .sending) (c .before .before .before .before .before .decode .ensures),
-      c .before .before .put-back .ensures
-          ∙ ap (λ (d : Decoded). putBack atPairs d s) (after (c .before .before .before))
-          ∙ taken s (z .args .sample .now) (z .pre .0) (sample-bytes (c .before .before .before .before .before .before .before)) (z .pre .1 .1),
+    let z = c .before .before .before .before .before .before .before .before .before in (
+      refl,
+      c .before .before .see-all .ensures
+          ∙ taken (z .args .rec .now) (z .args .sample .now) (z .pre .0) (λ i. c .before .before .before .before .before .before .before .before .slice-known .given i .fits) (λ i. c .before .before .before .before .before .before .before .shared-slice-known .given i .fits) (c .before .before .before .before .decode .result) (z .args .x) (c .before .before .before .before .decode .ensures) (z .pre .1 .0 .1),
     )
 
 pub take-reading-spec : {M : Type 1} → statement M
 take-reading-spec =
     tie.close
-    (tie.spec decode-requires after-reading-requires put-back-requires same-length returns)
+    (tie.spec
+    slice-read-flags
+    slice-write-rec
+    decode-requires
+    see-all-requires
+    same-length
+    returns)

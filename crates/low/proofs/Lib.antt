@@ -1,0 +1,2 @@
+pub mod LowLaws
+pub mod ZeroWords
