@@ -3,8 +3,6 @@
 #include <stdbool.h>
 #include <string.h>
 
-_Static_assert(sizeof(float) == 4, "a reading is compared as a 32-bit float");
-
 enum {
     PREFIX = 0xAA,
     SUFFIX = 0x85,
@@ -13,9 +11,9 @@ enum {
     REPLY_MAX = 19,
     INPUT_MAX = 4096,
     CHANNELS = 6,
-    FLOAT_LEN = 4,
-    PAIR_LEN = 2 * FLOAT_LEN,
-    SAMPLE_LEN = CHANNELS * FLOAT_LEN,
+    VALUE_LEN = 4,
+    PAIR_LEN = 2 * VALUE_LEN,
+    SAMPLE_LEN = CHANNELS * VALUE_LEN,
     MEASURING_LEN = SAMPLE_LEN + 4
 };
 
@@ -88,22 +86,22 @@ static struct second_answer done(size_t written, size_t skipped) {
     return (struct second_answer){0, (uint32_t)written, (uint32_t)skipped};
 }
 
-/* Numbers and readings */
+/* Numbers and values */
 
 static int signed_byte(uint8_t byte) { return byte < 0x80 ? byte : byte - 0x100; }
 
 static int signed_pair(const uint8_t *bytes) { return signed_byte(bytes[0]) * 0x100 + bytes[1]; }
 
-static float reading(const uint8_t *bytes) {
+/* Sign and size as a whole number, in the order of the finite values; both zeros come out as 0. */
+static int32_t rank(const uint8_t *bytes) {
     const uint32_t bits =
         (uint32_t)bytes[0] << 24 | (uint32_t)bytes[1] << 16 | (uint32_t)bytes[2] << 8 | (uint32_t)bytes[3];
-    float value;
-    memcpy(&value, &bits, sizeof value);
-    return value;
+    const int32_t size = (int32_t)(bits & 0x7FFFFFFF);
+    return bytes[0] < 0x80 ? size : -size;
 }
 
-/* Infinities and not-a-numbers are just the floats whose eight exponent bits are all set. */
-static bool reading_is_finite(const uint8_t *bytes) {
+/* Infinities and not-a-numbers are just the values whose eight exponent bits are all set. */
+static bool value_is_finite(const uint8_t *bytes) {
     return (bytes[0] & 0x7F) != 0x7F || (bytes[1] & 0x80) == 0;
 }
 
@@ -173,8 +171,8 @@ static bool pairs_are_well_formed(const uint8_t *record) {
     if ((record[FLAGS] & FLAG_READING) == 0)
         return all_zero(pair, PAIRS_LEN);
     for (size_t i = 0; i < CHANNELS; i++, pair += PAIR_LEN) {
-        if (!reading_is_finite(pair) || !reading_is_finite(pair + FLOAT_LEN) ||
-            reading(pair + FLOAT_LEN) > reading(pair))
+        if (!value_is_finite(pair) || !value_is_finite(pair + VALUE_LEN) ||
+            rank(pair + VALUE_LEN) > rank(pair))
             return false;
     }
     return true;
@@ -590,22 +588,22 @@ struct second_answer second_bytes(uint8_t *record, size_t record_len, const uint
     return hunt(record, &stream, output);
 }
 
-/* Equal readings replace nothing, so of two zeros with different signs the earlier one stays. */
+/* Equal ranks replace nothing, so of two zeros with different signs the earlier one stays. */
 static void widen_pair(uint8_t *pair, const uint8_t *sample) {
-    const float value = reading(sample);
-    if (value > reading(pair))
-        memcpy(pair, sample, FLOAT_LEN);
-    if (value < reading(pair + FLOAT_LEN))
-        memcpy(pair + FLOAT_LEN, sample, FLOAT_LEN);
+    const int32_t given = rank(sample);
+    if (given > rank(pair))
+        memcpy(pair, sample, VALUE_LEN);
+    if (given < rank(pair + VALUE_LEN))
+        memcpy(pair + VALUE_LEN, sample, VALUE_LEN);
 }
 
 static void keep_reading(uint8_t *record, const uint8_t *sample) {
     const bool first = (record[FLAGS] & FLAG_READING) == 0;
     uint8_t *pair = record + PAIRS;
-    for (size_t i = 0; i < CHANNELS; i++, pair += PAIR_LEN, sample += FLOAT_LEN) {
+    for (size_t i = 0; i < CHANNELS; i++, pair += PAIR_LEN, sample += VALUE_LEN) {
         if (first) {
-            memcpy(pair, sample, FLOAT_LEN);
-            memcpy(pair + FLOAT_LEN, sample, FLOAT_LEN);
+            memcpy(pair, sample, VALUE_LEN);
+            memcpy(pair + VALUE_LEN, sample, VALUE_LEN);
         } else {
             widen_pair(pair, sample);
         }
@@ -621,8 +619,8 @@ struct second_answer second_samples(uint8_t *record, size_t record_len, const ui
         return refused(2);
     if (output_len < MEASURING_LEN)
         return refused(3);
-    for (size_t i = 0; i < SAMPLE_LEN; i += FLOAT_LEN) {
-        if (!reading_is_finite(sample + i))
+    for (size_t i = 0; i < SAMPLE_LEN; i += VALUE_LEN) {
+        if (!value_is_finite(sample + i))
             return refused(4);
     }
     keep_reading(record, sample);

@@ -1,5 +1,6 @@
 #include "second.h"
 
+#include <math.h>
 #include <stdbool.h>
 #include <stdio.h>
 #include <stdlib.h>
@@ -1145,6 +1146,33 @@ static void test_well_formed_pairs(void) {
     }
 }
 
+/* Two readings of one channel: both zeros in both orders, and steps over the ends of the subnormals. */
+static void test_second_readings(void) {
+    static const struct {
+        const char *first, *then, *pair;
+    } rows[] = {
+        {"00000000", "80000000", "00000000 00000000"}, {"80000000", "00000000", "80000000 80000000"},
+        {"00000000", "00000001", "00000001 00000000"}, {"00000001", "00000000", "00000001 00000000"},
+        {"80000000", "00000001", "00000001 80000000"}, {"00000001", "80000000", "00000001 80000000"},
+        {"00000000", "80000001", "00000000 80000001"}, {"80000001", "00000000", "00000000 80000001"},
+        {"80000000", "80000001", "80000000 80000001"}, {"80000001", "80000000", "80000000 80000001"},
+        {"80000001", "00000001", "00000001 80000001"}, {"00000001", "80000001", "00000001 80000001"},
+        {"007FFFFF", "00800000", "00800000 007FFFFF"}, {"00800000", "007FFFFF", "00800000 007FFFFF"},
+        {"807FFFFF", "80800000", "807FFFFF 80800000"}, {"80800000", "807FFFFF", "807FFFFF 80800000"},
+    };
+    for (size_t i = 0; i < sizeof rows / sizeof *rows; i++) {
+        for (size_t channel = 0; channel < 6; channel++) {
+            FACTORY_RECORD(record);
+            uint8_t sample[24] = {0};
+            hex(rows[i].first, sample + 4 * channel);
+            CHECK(make_call(CALL_SAMPLES, record, RECORD, sample, 24, 28).result == 0);
+            hex(rows[i].then, sample + 4 * channel);
+            CHECK(make_call(CALL_SAMPLES, record, RECORD, sample, 24, 28).result == 0);
+            FIELD(record, AT_PAIRS + 8 * channel, rows[i].pair);
+        }
+    }
+}
+
 static void test_samples(void) {
     static const char frame[] = "AA 15 B0 3F800000 40000000 C0400000 00000000 80000000 7F7FFFFF 85";
     uint8_t wanted[28];
@@ -1230,9 +1258,11 @@ static void test_samples(void) {
     }
 }
 
-/* Orders finite floats by their bits alone, with both zeros at the same place. */
-static int64_t order(const uint8_t *bytes) {
-    const int64_t size = (int64_t)(bytes[0] & 0x7F) << 24 | bytes[1] << 16 | bytes[2] << 8 | bytes[3];
+/* What finite bits stand for; the smallest is a normal double, so that no float mode takes it for zero. */
+static double value_of(const uint8_t *bytes) {
+    const int exponent = (bytes[0] & 0x7F) << 1 | bytes[1] >> 7;
+    const int fraction = (bytes[1] & 0x7F) << 16 | bytes[2] << 8 | bytes[3];
+    const double size = exponent == 0 ? ldexp(fraction, -149) : ldexp(fraction + 0x800000, exponent - 150);
     return (bytes[0] & 0x80) != 0 ? -size : size;
 }
 
@@ -1262,9 +1292,9 @@ static void test_random_samples(void) {
             uint8_t *given = sample + 4 * channel;
             random_float(given, pair + 4 * random_below(2));
             all_finite = all_finite && is_finite(given);
-            if ((record[AT_FLAGS] & SEEN) == 0 || order(given) > order(pair))
+            if ((record[AT_FLAGS] & SEEN) == 0 || value_of(given) > value_of(pair))
                 memcpy(pair, given, 4);
-            if ((record[AT_FLAGS] & SEEN) == 0 || order(given) < order(pair + 4))
+            if ((record[AT_FLAGS] & SEEN) == 0 || value_of(given) < value_of(pair + 4))
                 memcpy(pair + 4, given, 4);
         }
         wanted[AT_FLAGS] |= SEEN;
@@ -1287,7 +1317,8 @@ static void test_random_pairs(void) {
         for (size_t i = 0; i < 4; i++)
             pair[i] = (uint8_t)random_below(256);
         random_float(pair + 4, pair);
-        CHECK(accepted(record) == (is_finite(pair) && is_finite(pair + 4) && order(pair + 4) <= order(pair)));
+        CHECK(accepted(record) ==
+              (is_finite(pair) && is_finite(pair + 4) && value_of(pair + 4) <= value_of(pair)));
         memset(pair, 0, 8);
     }
 }
@@ -1318,6 +1349,7 @@ int main(void) {
     test_well_formed_texts();
     test_well_formed_pending();
     test_well_formed_pairs();
+    test_second_readings();
     test_samples();
     test_random_samples();
     test_random_pairs();

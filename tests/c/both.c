@@ -31,6 +31,8 @@ static const uint8_t guards[TURNS][PROGRAMS] = {{0xAA, 0x85}, {0xFF, 0x00}, {0x8
 /* The case under way, for a program that crashes on it. */
 static const struct given *current;
 
+enum mode both_mode = MODE_USUAL;
+
 /* Without bytes the buffer gets the filling. */
 static uint8_t *lend(uint8_t *buffer, const uint8_t *bytes, size_t len, uint8_t guard) {
     memset(buffer, guard, GUARD);
@@ -66,7 +68,9 @@ static void run(const struct program *program, const struct given *given, struct
         request.input = NULL;
     if (given->null && given->room == 0)
         request.output = NULL;
+    const unsigned before = mode_enter(both_mode);
     lent->answer = program->run(&request);
+    mode_leave(before);
 }
 
 static bool all_guarded(const struct lent *lent, const struct given *given) {
@@ -103,7 +107,7 @@ static void show_case(const struct given *given) {
         show_word(NULL, 0, given->null);
     else
         printf(" %zu", given->room);
-    printf("\n");
+    printf(" %s\n", mode_names[both_mode]);
 }
 
 static void crashed(int number) {

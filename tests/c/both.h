@@ -2,6 +2,7 @@
 #ifndef BOTH_H
 #define BOTH_H
 
+#include "mode.h"
 #include "programs.h"
 
 #include <stdbool.h>
@@ -22,6 +23,9 @@ struct given {
 
 /* From then on a program that crashes ends with its case printed. */
 void both_catch_crashes(void);
+
+/* The float mode in which programs are run. */
+extern enum mode both_mode;
 
 /* Counts the case and prints it if the two differ. The record becomes what the second program left. */
 struct board_answer both(const struct given *given);

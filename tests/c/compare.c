@@ -15,14 +15,15 @@ static const struct part {
 } parts[] = {
     {"tables", run_tables, 210},      {"commands", run_commands, 1193744},
     {"limits", run_limits, 11718},    {"changes", run_changes, 1983786},
-    {"hunts", run_hunts, 23562},      {"readings", run_readings, 221192},
+    {"hunts", run_hunts, 23562},      {"readings", run_readings, 725868},
     {"streams", run_streams, 200000},
 };
 
 static int usage(void) {
     printf("usage: compare [--first] [--seed N] [--calls N] [--part NAME] TABLE...\n"
-           "       compare --replay CALL RECORD INPUT ROOM\n"
-           "RECORD and INPUT are hex, - if empty, null if a null pointer; ROOM is a number, - or null\n");
+           "       compare --replay CALL RECORD INPUT ROOM MODE\n"
+           "RECORD and INPUT are hex, - if empty, null if a null pointer; ROOM is a number, - or null;\n"
+           "MODE is that of the floats, usual or flushed\n");
     return 2;
 }
 
@@ -58,7 +59,7 @@ static int replay(char **words) {
     if (!call_named(words[0], &given.call) ||
         !read_buffer(words[1], record, sizeof record, &given.record_len, &given.null) ||
         !read_buffer(words[2], input, sizeof input, &given.input_len, &given.null) ||
-        !read_room(words[3], &given.room, &given.null))
+        !read_room(words[3], &given.room, &given.null) || !mode_named(words[4], &both_mode))
         return usage();
     const struct board_answer answer = both(&given);
     printf("second program: result %u, written %u, skipped %u\n", (unsigned)answer.result,
@@ -102,7 +103,7 @@ int main(int argc, char **argv) {
     struct settings settings = {.seed = 121, .calls = 500000};
     int at = 1;
     both_catch_crashes();
-    if (argc == 6 && strcmp(argv[1], "--replay") == 0)
+    if (argc == 7 && strcmp(argv[1], "--replay") == 0)
         return replay(argv + 2);
     tally.first = argc > at && strcmp(argv[at], "--first") == 0;
     at += tally.first ? 1 : 0;
