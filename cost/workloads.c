@@ -94,6 +94,16 @@ static void empty_input(size_t size) {
     request.input_len = 0;
 }
 
+/* The same with six pairs to be looked at, and else the factory's record. */
+static void empty_read(size_t size) {
+    struct draw draw = draw_from(2);
+    uint8_t drawn[RECORD_SIZE];
+    draw_record(&draw, drawn, 0, true);
+    memcpy(start + AT_PAIRS, drawn + AT_PAIRS, RECORD_SIZE - AT_PAIRS);
+    start[AT_FLAGS] = FLAG_READING | FLAG_SENDING;
+    empty_input(size);
+}
+
 static void short_frame(size_t size) {
     (void)size;
     short_commands(4);
@@ -129,6 +139,7 @@ static const struct workload {
     {"all-AA", all_aa, true},
     {"wrong-last-byte", wrong_last_byte, true},
     {"empty-input", empty_input, false},
+    {"empty-read", empty_read, false},
     {"short-frame", short_frame, false},
     {"reading-sent", reading_sent, false},
     {"reading-refused", reading_refused, false},
