@@ -164,8 +164,7 @@ struct board_answer board_samples(uint8_t *record, size_t record_len, const uint
  *
  * The archive is x86-64 code for the System V calling convention (SSE2, position independent). It calls
  * memset and nothing else, takes buffers at any alignment, and was measured to use at most 840
- * bytes of stack (docs/PERFORMANCE.md; reserve 1,024). Floats are compared in the processor's usual mode:
- * a program linked with -ffast-math takes the tiniest values for zero, and pairs then differ from the proof.
+ * bytes of stack (docs/PERFORMANCE.md; reserve 1,024).
  *
  * Another controller. The kit compiles for x86-64 alone. Elsewhere there are two ways, neither proved:
  * compile second/second.c, the same board in plain C11 over the same record, which is compared with the
