@@ -28,8 +28,8 @@ extern "C" {
 /* This header's version; the packages in pkgconfig/ and cmake/ have the same. */
 #define BOARD_VERSION_MAJOR 1
 #define BOARD_VERSION_MINOR 0
-#define BOARD_VERSION_PATCH 2
-#define BOARD_VERSION "1.0.2"
+#define BOARD_VERSION_PATCH 3
+#define BOARD_VERSION "1.0.3"
 
 /*
  * An archive with another record than this header's refuses board_factory with BOARD_BAD_RECORD, or leaves

@@ -238,20 +238,24 @@ fit-finite false p e =
     let t = both (eqb (p .greatest) 0) (eqb (p .smallest) 0) e in
     (ap finite (eqb-true (p .greatest) 0 (t .0)), ap finite (eqb-true (p .smallest) 0 (t .1)))
 
--- the bytes with the reading flag set
-abbrev pub flagged : List ℕ → List ℕ
-flagged s = set s atFlags (bitOr (getD s atFlags 0) 8)
+-- the bytes with other flags: no pair is touched
+abbrev marked : List ℕ → ℕ → List ℕ
+marked s v = set s atFlags v
 
-word-flagged : (s : List ℕ) (at : ℕ) → atFlags < at → wordAt (flagged s) at ≡ wordAt s at
-word-flagged s at h = rw (other at (omega arith), other (at + 1) (omega arith), other (at + 2) (omega arith), other (at + 3) (omega arith)) refl
+word-marked : (s : List ℕ) (v at : ℕ) → atFlags < at → wordAt (marked s v) at ≡ wordAt s at
+word-marked s v at h = rw (other at (omega arith), other (at + 1) (omega arith), other (at + 2) (omega arith), other (at + 3) (omega arith)) refl
   where
-    other : (k : ℕ) → atFlags < k → getD (flagged s) k 0 ≡ getD s k 0
-    other k l = getD-set-other s atFlags k (bitOr (getD s atFlags 0) 8) 0 (λ e. omega arith)
+    other : (k : ℕ) → atFlags < k → getD (marked s v) k 0 ≡ getD s k 0
+    other k l = getD-set-other s atFlags k v 0 (λ e. omega arith)
 
-pairs-flagged : (n : ℕ) (s : List ℕ) (at : ℕ) → atFlags < at → pairsAt n (flagged s) at ≡ pairsAt n s at
-pairs-flagged zero s at h = refl
-pairs-flagged (suc n) s at h =
-    ap₂ (_∷_) (λ i. record { greatest = word-flagged s at h i; smallest = word-flagged s (at + 4) (omega arith) i }) (pairs-flagged n s (at + 8) (omega arith))
+pairs-marked : (n : ℕ) (s : List ℕ) (v at : ℕ) → atFlags < at → pairsAt n (marked s v) at ≡ pairsAt n s at
+pairs-marked zero s v at h = refl
+pairs-marked (suc n) s v at h =
+    ap₂ (_∷_) (λ i. record { greatest = word-marked s v at h i; smallest = word-marked s v (at + 4) (omega arith) i }) (pairs-marked n s v (at + 8) (omega arith))
+
+-- with the reading flag set
+abbrev flagged : List ℕ → List ℕ
+flagged s = marked s (bitOr (getD s atFlags 0) 8)
 
 bytes-flagged : (s : List ℕ) → atFlags < length s → Bytes s → Bytes (flagged s)
 bytes-flagged s h b i = go (eqb i atFlags) refl
@@ -267,16 +271,16 @@ module _ (s : List ℕ) (h : Sound s) where
       subst (λ (p : Pair). (finite (p .greatest) ≡ true) × (finite (p .smallest) ≡ true)) (pair-of channels s atPairs k l)
       (fit-finite (recordOf s .flags .reading) (getD (pairsAt channels s atPairs) k noPair) (h .fit .pairs k l))
 
-  pub there : There atPairs (flagged s)
-  there = record {
-    pairs = omega (arith, length-set s atFlags (bitOr (getD s atFlags 0) 8), sound-long s h);
-    numbers = λ k l. rw (word-flagged s (atPairs + 8 * k) (omega arith), word-flagged s (atPairs + 8 * k + 4) (omega arith)) (numbers-there k l);
+  pub there : (v : ℕ) → There atPairs (marked s v)
+  there v = record {
+    pairs = omega (arith, length-set s atFlags v, sound-long s h);
+    numbers = λ k l. rw (word-marked s v (atPairs + 8 * k) (omega arith), word-marked s v (atPairs + 8 * k + 4) (omega arith)) (numbers-there k l);
   }
 
-  pub all-numbers : AllNumbers (decodedAt atPairs (flagged s) .peaks)
-  all-numbers k l =
-      rw (peak-of channels (flagged s) atPairs k l)
-      (float-number (wordAt (flagged s) (atPairs + 8 * k)) (there .numbers k l .0), float-number (wordAt (flagged s) (atPairs + 8 * k + 4)) (there .numbers k l .1))
+  pub all-numbers : (v : ℕ) → AllNumbers (decodedAt atPairs (marked s v) .peaks)
+  all-numbers v k l =
+      rw (peak-of channels (marked s v) atPairs k l)
+      (float-number (wordAt (marked s v) (atPairs + 8 * k)) (there v .numbers k l .0), float-number (wordAt (marked s v) (atPairs + 8 * k + 4)) (there v .numbers k l .1))
 
 reading-bit : (a b c d : Bool) → bitOr (nibble a b c d) 8 ≡ nibble a b c true
 reading-bit a b c d = switch 4 (omega arith) (omega arith) true a b c d
@@ -296,16 +300,20 @@ module _ (s sample : List ℕ) (h : Sound s) (b : Bytes s) (c : Bytes sample) wh
   abbrev later : List Pair
   later = seenAll (r .flags .reading) (r .pairs) sample 0
 
-  stored-all : seenUpTo channels (bitOf (getD s atFlags 0) 8) (decodedAt atPairs (flagged s) .peaks) (wordsAt channels sample 0) sample (flagged s) atPairs ≡ bytesOf (readingOf r sample)
+  abbrev flags : ℕ
+  flags = getD s atFlags 0
+
+  stored-all : seenUpTo channels (bitOf flags 8) (decodedAt atPairs (flagged s) .peaks) (wordsAt channels sample 0) sample (flagged s) atPairs ≡ bytesOf (readingOf r sample)
   unfolding readingOf withFlags withPairs recordOf
   stored-all =
-      let room : atPairs + channels * 8 ≤ length (flagged s) = there s h .pairs in
-      up-to channels (flagged s) sample atPairs (r .flags .reading) (bytes-flagged s (omega (arith, sound-long s h)) b) c room (there s h .numbers) channels (omega arith)
-      ∙ ap (λ (ps : List Pair). put (flagged s) atPairs (pairsBytes channels (seenAll (r .flags .reading) ps sample 0) 0)) (pairs-flagged channels s atPairs (omega arith))
-      ∙ put-sets (flagged s) atPairs (pairsBytes channels later 0) (omega (arith, length-bytes channels later 0, room))
+      let t : There atPairs (flagged s) = there s h (bitOr flags 8) in
+      up-to channels (flagged s) sample atPairs (r .flags .reading) (bytes-flagged s (omega (arith, sound-long s h)) b) c (t .pairs) (t .numbers) channels (omega arith)
+      ∙ ap (λ (ps : List Pair). put (flagged s) atPairs (pairsBytes channels (seenAll (r .flags .reading) ps sample 0) 0)) (pairs-marked channels s (bitOr flags 8) atPairs (omega arith))
+      ∙ put-sets (flagged s) atPairs (pairsBytes channels later 0) (omega (arith, length-bytes channels later 0, t .pairs))
       ∙ ap (λ (l : List ℕ). sets l atPairs (pairsBytes channels later 0)) (ap flagged (h .same) ∙ set-reading r)
       ∙ set-pairs (withFlags r (withReading (r .flags) true)) later
 
-  pub taken : (d : Decoded) (x : List ℕ) → d ≡ decodedAt atPairs (flagged s) → x ≡ wordsAt channels sample 0
-      → seenUpTo channels (bitOf (getD s atFlags 0) 8) (d .peaks) x sample (flagged s) atPairs ≡ bytesOf (readingOf (recordOf s) sample)
-  taken d x e f = ap₂ (λ (k : Decoded) (v : List ℕ). seenUpTo channels (bitOf (getD s atFlags 0) 8) (k .peaks) v sample (flagged s) atPairs) e f ∙ stored-all
+  -- the bytes that are left, by what they were made of
+  pub taken : (d : Decoded) (x : List ℕ) → d ≡ decodedAt atPairs (flagged s) → x ≡ wordsAt channels sample 0 → (l : List ℕ)
+      → l ≡ seenUpTo channels (bitOf flags 8) (d .peaks) x sample (flagged s) atPairs → l ≡ bytesOf (readingOf (recordOf s) sample)
+  taken d x e f l g = g ∙ ap₂ (λ (k : Decoded) (v : List ℕ). seenUpTo channels (bitOf flags 8) (k .peaks) v sample (flagged s) atPairs) e f ∙ stored-all

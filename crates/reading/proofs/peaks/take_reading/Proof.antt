@@ -1,8 +1,7 @@
 -- `take_reading`: the record after a reading, with its flag.
 use mathlib.Core.Path.{refl, sym, subst, _∙_}
 use native.Mathlib.Omega.{arith}
-use lib.ListN.{getD, length-set}
-use lib.Bits.{bitOr}
+use lib.ListN.{length-set}
 use Rattle.record.specs.Layout.{atFlags, recordOf}
 use Rattle.reading.specs.Decoded.{AllNumbers}
 use Rattle.reading.specs.declared.Decoded.{Decoded}
@@ -17,26 +16,25 @@ slice-write-rec : tie.Need-slice-write-rec
 slice-write-rec c = let z = c .before .before .before in omega (arith, sound-long (z .args .rec .now) (z .pre .0))
 
 decode-requires : tie.Need-decode-requires
-decode-requires c κs = let z = c .before .before .before .before in there (z .args .rec .now) (z .pre .0)
+decode-requires c κs = let z = c .before .before .before .before in there (z .args .rec .now) (z .pre .0) _
 
 see-all-requires : tie.Need-see-all-requires
 see-all-requires c κs =
     let z = c .before .before .before .before .before .before in
     let s = z .args .rec .now in
-    ((there s (z .pre .0) .pairs, z .pre .1 .0 .0), subst (λ (d : Decoded). AllNumbers (d .peaks)) (sym (c .before .decode .ensures)) (all-numbers s (z .pre .0)))
+    ((there s (z .pre .0) _ .pairs, z .pre .1 .0 .0), subst (λ (d : Decoded). AllNumbers (d .peaks)) (sym (c .before .decode .ensures)) (all-numbers s (z .pre .0) _))
 
 same-length : tie.Need-same-length
 same-length c =
     let z = c .before .before .before .before .before .before .before .before .before in
-    c .before .before .see-all .kept .1 .0 ∙ length-set (z .args .rec .now) atFlags (bitOr (getD (z .args .rec .now) atFlags 0) 8)
+    c .before .before .see-all .kept .1 .0 ∙ length-set (z .args .rec .now) atFlags _
 
 returns : tie.Need-returns
 unfolding recordOf
 returns c =
     let z = c .before .before .before .before .before .before .before .before .before in (
       refl,
-      c .before .before .see-all .ensures
-          ∙ taken (z .args .rec .now) (z .args .sample .now) (z .pre .0) (λ i. c .before .before .before .before .before .before .before .before .slice-known .given i .fits) (λ i. c .before .before .before .before .before .before .before .shared-slice-known .given i .fits) (c .before .before .before .before .decode .result) (z .args .x) (c .before .before .before .before .decode .ensures) (z .pre .1 .0 .1),
+      taken (z .args .rec .now) (z .args .sample .now) (z .pre .0) (λ i. c .before .before .before .before .before .before .before .before .slice-known .given i .fits) (λ i. c .before .before .before .before .before .before .before .shared-slice-known .given i .fits) (c .before .before .before .before .decode .result) (z .args .x) (c .before .before .before .before .decode .ensures) (z .pre .1 .0 .1) _ (c .before .before .see-all .ensures),
     )
 
 pub take-reading-spec : {M : Type 1} → statement M
