@@ -1,7 +1,7 @@
 -- Name, model and pending bytes, as their functions test them; and the whole check.
 use Prim.Native.Nat.{ℕ, zero, suc, _+_, _-_, _≤_, _<_}
 use mathlib.Core.Path.{_≡_, refl, sym, ap, ap₂, _∙_}
-use mathlib.Core.Bool.{Bool, true, false, cond, _&&_, and-assoc, and-true}
+use mathlib.Core.Bool.{Bool, true, false, _&&_, and-assoc, and-true}
 use mathlib.Core.List.{List, [], _∷_, _++_}
 use native.Mathlib.Omega.{arith}
 use lib.ListN.{length, getD, take, drop}
@@ -9,8 +9,7 @@ use lib.Seq.{take-take, drop-drop}
 use lib.Dec.{leb, eqb}
 use borrow.Author.Tests.{lt-leb, le-leb, eq-eqb, ne-eqb, eqb-true}
 use Rattle.wire.specs.Numbers.{bytesAt}
-use Rattle.wire.specs.Ranges.{fits, also}
-use Rattle.wire.specs.declared.Range.the-variants.{Fits, Big}
+use Rattle.wire.specs.Ranges.{fits}
 use Rattle.wire.specs.Zeros.{allZero, zerosBehind, beforeZero}
 use Rattle.wire.specs.Frames.{waits}
 use Rattle.wire.specs.Serial.{serial}

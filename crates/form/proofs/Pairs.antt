@@ -1,8 +1,8 @@
 -- The pairs as the check goes through them: with a reading one by one, without one as zeros.
 use Prim.Native.Nat.{ℕ, zero, suc, _+_, _-_, _*_, _%_, _≤_, _<_, max}
 use mathlib.Core.Path.{_≡_, refl, sym, ap, ap₂, _∙_}
-use mathlib.Core.Bool.{Bool, true, false, not, _&&_, and-assoc, and-true}
-use mathlib.Core.List.{List, [], _∷_}
+use mathlib.Core.Bool.{Bool, true, false, not, _&&_}
+use mathlib.Core.List.{List, []}
 use native.Mathlib.Nat.{add-zero, add-assoc, sub-zero}
 use native.Mathlib.Numerals.{towards-suc}
 use native.Mathlib.Omega.{arith}
@@ -15,7 +15,7 @@ use Rattle.wire.proofs.NumberLaws.{part-is, part-part}
 use Rattle.wire.proofs.ScanLaws.{part}
 use Rattle.low.proofs.ZeroWords.{zero-append}
 use Rattle.peak.specs.Pairs.{finite, key, less, pairFits, pairAt}
-use Rattle.peak.proofs.Patterns.{not-less, max-below}
+use Rattle.peak.proofs.Patterns.{same, not-less, max-below}
 use Rattle.peak.proofs.PairLaws.{both}
 use Rattle.record.specs.Form.{several, allFine}
 
@@ -50,32 +50,32 @@ module _ (s : List ℕ) (from n : ℕ) where
   unfolding left
   left-none i h = let e : n - i ≡ 0 = omega arith in rw e refl
 
-  -- out of order
-  pub left-out : (i : ℕ) (t : Bool) → i < n → less (great i) (small i) ≡ true → false ≡ (t && left i)
-  left-out i t h e =
-      let no : leb (key (small i)) (key (great i)) ≡ false = sym (not-less (key (great i)) (key (small i))) ∙ ap not e in
-      sym (ap (λ (b : Bool). t && b) (left-more i h) ∙ rw no (never t (finite (great i) && finite (small i)) (left (i + 1))))
-    where
-      never : (a b c : Bool) → (a && ((b && false) && c)) ≡ false
-      never true true c = refl
-      never true false c = refl
-      never false b c = refl
-
-  -- in order: what is asked further is that both are finite
-  pub left-in : (i most : ℕ) → i < n → less (great i) (small i) ≡ false
-      → (ltb most 0x7F800000 && left i) ≡ (ltb (max (max most (great i % 0x80000000)) (small i % 0x80000000)) 0x7F800000 && left (i + 1))
-  left-in i most h e =
-      let yes : leb (key (small i)) (key (great i)) ≡ true = sym (not-less (key (great i)) (key (small i))) ∙ ap not e in
+  -- one pair: in order, and both of its values among those that have to be finite
+  left-one : (i most : ℕ) → i < n
+      → (ltb most 0x7F800000 && left i) ≡ (not (less (great i) (small i)) && (ltb (max (max most (great i % 0x80000000)) (small i % 0x80000000)) 0x7F800000 && left (i + 1)))
+  left-one i most h =
       let m : ℕ = max most (great i % 0x80000000) in
       ap (λ (b : Bool). ltb most 0x7F800000 && b) (left-more i h)
-      ∙ rw (yes, max-below m (small i % 0x80000000) 0x7F800000, max-below most (great i % 0x80000000) 0x7F800000) (simp (and-assoc, and-true))
+      ∙ rw (not-less (key (great i)) (key (small i)), max-below m (small i % 0x80000000) 0x7F800000, max-below most (great i % 0x80000000) 0x7F800000)
+      (turn (ltb most 0x7F800000) (finite (great i)) (finite (small i)) (leb (key (small i)) (key (great i))) (left (i + 1)))
+    where
+      turn : (a b c d e : Bool) → (a && (((b && c) && d) && e)) ≡ (d && (((a && b) && c) && e))
+      turn true true true d e = refl
+      turn true true false true e = refl
+      turn true true false false e = refl
+      turn true false c true e = refl
+      turn true false c false e = refl
+      turn false b c true e = refl
+      turn false b c false e = refl
+
+  pub left-out : (i most : ℕ) → i < n → less (great i) (small i) ≡ true → false ≡ (ltb most 0x7F800000 && left i)
+  left-out i most h e = sym (left-one i most h ∙ rw e refl)
+
+  pub left-in : (i most : ℕ) → i < n → less (great i) (small i) ≡ false
+      → (ltb most 0x7F800000 && left i) ≡ (ltb (max (max most (great i % 0x80000000)) (small i % 0x80000000)) 0x7F800000 && left (i + 1))
+  left-in i most h e = left-one i most h ∙ rw e refl
 
 -- ---- without one
-
-same : (x y : Bool) → (x ≡ true → y ≡ true) → (y ≡ true → x ≡ true) → x ≡ y
-same true y f g = sym (f refl)
-same false true f g = g refl
-same false false f g = refl
 
 word-none : (a b c d : ℕ) → (eqb a 0 && (eqb b 0 && (eqb c 0 && (eqb d 0 && true)))) ≡ eqb (a * 16777216 + b * 65536 + c * 256 + d) 0
 word-none a b c d =

@@ -1,11 +1,11 @@
 -- The order of finite floats is that of the keys of their patterns, and a finite pattern is not lost on the way through a float.
 use mathlib.Core.Path.{_≡_, refl, sym, ap, _∙_, subst}
 use mathlib.Core.Logic.{_⊎_, inl, inr}
-use mathlib.Core.Bool.{Bool, true, false, not, cond, _&&_}
+use mathlib.Core.Bool.{Bool, true, false, not, cond}
 use Prim.Native.Nat.{ℕ, zero, suc, _+_, _-_, _*_, _/_, _%_, _^_, _≤_, _<_}
 use native.Mathlib.Nat.{le-trans, le-of-eq, lt-of-lt-of-le, eq-or-lt-of-le, mul-comm, mul-assoc, mul-right-comm, mul-le-mul-right, mul-le-mul-left, mul-lt-mul-of-pos-right, lt-of-mul-lt-mul-right, mul-pos, pow-succ', le-of-lt, zero-mul, add-mul, eq-zero-or-pos, le-of-mul-le-mul-right}
 use native.Mathlib.Omega.{arith}
-use borrow.Author.Tests.{lt-ltb, le-ltb, ltb-true, ltb-false, lt-leb, le-leb, ne-eqb}
+use borrow.Author.Tests.{lt-ltb, le-ltb, ltb-true, lt-leb, le-leb, ne-eqb}
 use lib.Dec.{T, leb, ltb, eqb}
 use lib.Pow.{pow-pos, pow-mono}
 use lib.Ieee.{Float, nan, inf, fin, binary32, up, down, odd, ofFields, ofBits, toBits, nanBits, isNan, lt, below}
@@ -14,7 +14,7 @@ use lib.Ieee.Bits.{nanBits-is, nanBits-above, toBits-ofBits}
 use lib.Ieee.Exact.{HasValue, odd-sign}
 use Rattle.peak.specs.Pairs.{finite, key, less}
 use Rattle.peak.specs.Floats.{bitsOf, floatOf}
-use Rattle.peak.proofs.Patterns.{split, alike}
+use Rattle.peak.proofs.Patterns.{same, split, alike}
 
 -- a finite pattern is no NaN's
 pub no-nan : (n : ℕ) → finite n ≡ true → T (not (nanBits binary32 n))
@@ -175,12 +175,6 @@ by-key a b A B = go (split a 0x80000000) (split b 0x80000000)
 
     neg-size : (a : ℕ) → 0x80000000 ≤ a → a < 0x100000000 → a % 0x80000000 ≡ a - 0x80000000
     neg-size a h k = omega arith
-
-    same : (x y : Bool) → (x ≡ true → y ≡ true) → (y ≡ true → x ≡ true) → x ≡ y
-    same true true f g = refl
-    same true false f g = sym (f refl)
-    same false true f g = g refl
-    same false false f g = refl
 
     some-lt : (m n : ℕ) → ltb 0 (val m + val n) ≡ ltb 0 (m + n)
     some-lt m n = same (ltb 0 (val m + val n)) (ltb 0 (m + n))

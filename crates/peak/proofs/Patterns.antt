@@ -6,9 +6,14 @@ use mathlib.Core.Bool.{Bool, true, false, not, _&&_}
 use native.Mathlib.Omega.{arith}
 use lib.Dec.{ltb, leb, eqb}
 use borrow.Author.Tests.{lt-ltb, le-ltb, ltb-true, ltb-false, lt-leb, le-leb, eq-eqb, ne-eqb}
-use Rattle.peak.specs.Pairs.{finite, key, less}
+use Rattle.peak.specs.Pairs.{key, less}
 
--- ---- tests of numbers
+-- ---- tests
+
+pub same : (x y : Bool) → (x ≡ true → y ≡ true) → (y ≡ true → x ≡ true) → x ≡ y
+same true y f g = sym (f refl)
+same false true f g = g refl
+same false false f g = refl
 
 pub split : (a b : ℕ) → (a < b) ⊎ (b ≤ a)
 split a b = go (ltb a b) refl

@@ -18,10 +18,14 @@ abbrev pub peakOf : Pair → Peak
 peakOf p = record { greatest = floatOf (p .greatest); smallest = floatOf (p .smallest) }
 
 -- whether a reading becomes the greatest value, the smallest value
-abbrev pub raised : Bool → Peak → ℕ → Bool
-raised false p x = true
-raised true p x = less (bitsOf (p .greatest)) x
+abbrev pub isRaised : Bool → Peak → ℕ → Bool
+isRaised false p x = true
+isRaised true p x = less (bitsOf (p .greatest)) x
 
-abbrev pub lowered : Bool → Peak → ℕ → Bool
-lowered false p x = true
-lowered true p x = less x (bitsOf (p .smallest))
+abbrev pub isLowered : Bool → Peak → ℕ → Bool
+isLowered false p x = true
+isLowered true p x = less x (bitsOf (p .smallest))
+
+-- a pair with a reading in the place of those of its values that it replaces
+abbrev pub renewed : Peak → ℕ → Bool → Bool → Peak
+renewed p x raised lowered = record { greatest = cond raised (floatOf x) (p .greatest); smallest = cond lowered (floatOf x) (p .smallest) }

@@ -5,7 +5,7 @@ ghost use Prim.Native.Nat.{_+_, _%_, max};
 ghost use lib.Dec.{T, leb};
 ghost use lib.Ieee.{isNan};
 ghost use Rattle.peak.specs.Pairs.{finite, less};
-ghost use Rattle.peak.specs.Floats.{floatOf, bitsOf, raised, lowered};
+ghost use Rattle.peak.specs.Floats.{floatOf, bitsOf, renewed, isRaised, isLowered};
 
 // The greatest and the smallest value of a channel.
 pub struct Peak {
@@ -87,10 +87,27 @@ pub fn below(x: u32, y: u32) -> bool
     turned(x) < turned(y)
 }
 
+fn chosen(taken: bool, x: f32, kept: f32) -> f32
+    ensures { λ r. ⌜ r ≡ cond taken x kept ⌝ }
+{
+    if taken { x } else { kept }
+}
+
+// A pair with a reading in the place of those of its values that it replaces.
+pub fn updated(p: Peak, x: u32, raised: bool, lowered: bool) -> Peak
+    requires { ⌜ finite x ≡ true ⌝ }
+    ensures { λ r. ⌜ r ≡ renewed p x raised lowered ⌝ }
+{
+    let value = finite_float(x);
+    let greatest = chosen(raised, value, p.greatest);
+    let smallest = chosen(lowered, value, p.smallest);
+    Peak { greatest, smallest }
+}
+
 // Whether a reading becomes the greatest value: the first one does, later a strictly greater one.
 pub fn raises(seen: bool, p: Peak, x: u32) -> bool
     requires { ⌜ T (not (isNan (p .greatest))) ⌝ }
-    ensures { λ r. ⌜ r ≡ raised seen p x ⌝ }
+    ensures { λ r. ⌜ r ≡ isRaised seen p x ⌝ }
 {
     if seen {
         return above(x, bits_of(p.greatest));
@@ -101,7 +118,7 @@ pub fn raises(seen: bool, p: Peak, x: u32) -> bool
 // Whether a reading becomes the smallest value.
 pub fn lowers(seen: bool, p: Peak, x: u32) -> bool
     requires { ⌜ T (not (isNan (p .smallest))) ⌝ }
-    ensures { λ r. ⌜ r ≡ lowered seen p x ⌝ }
+    ensures { λ r. ⌜ r ≡ isLowered seen p x ⌝ }
 {
     if seen {
         return below(x, bits_of(p.smallest));

@@ -15,20 +15,21 @@ use Rattle.wire.specs.Numbers.{Bytes, wordAt, bytes4, bytesAt, put}
 use Rattle.wire.proofs.NumberLaws.{part-is, part-part, length-part}
 use Rattle.wire.proofs.PutLaws.{put-nil, put-put, length-put, put-sets}
 use Rattle.peak.specs.Pairs.{Pair, noPair, finite, less, seen, seenAll, allFinite, pairFits, pairAt, pairsAt, pairBytes, pairsBytes}
-use Rattle.peak.specs.Floats.{bitsOf, floatOf, peakOf, raised, lowered}
+use Rattle.peak.specs.Floats.{peakOf, isRaised, isLowered}
 use Rattle.peak.specs.declared.Peak.{Peak}
 use Rattle.peak.proofs.Order.{bits-back, float-number}
 use Rattle.peak.proofs.Patterns.{max-below}
-use Rattle.peak.proofs.PairLaws.{both, fit, seen-at, length-seen}
+use Rattle.peak.proofs.PairLaws.{both, fit, seen-at}
 use Rattle.record.specs.Record.{Record, withFlags, withReading, withPairs}
 use Rattle.record.specs.Layout.{recordSize, channels, atFlags, atPairs, nibble, bitOf, bytesOf, recordOf}
 use Rattle.record.specs.InPlace.{Sound}
 use Rattle.record.specs.Reading.{readingOf}
 use Rattle.record.proofs.Choices.{switch}
 use Rattle.record.proofs.Parts.{word-lt, word-at}
+use Rattle.record.proofs.Pieces.{pairs-long, pairs-get, pairs-many}
 use Rattle.record.proofs.Lens.{long, get-flags, set-flags}
 use Rattle.reading.specs.declared.Decoded.{Decoded}
-use Rattle.reading.specs.Decoded.{decodedAt, There, AllNumbers, wordsAt, finiteAll, noPeak, Numbers, stored, seenAt, seenUpTo}
+use Rattle.reading.specs.Decoded.{decodedAt, There, AllNumbers, wordsAt, finiteAll, noPeak, stored, seenAt, seenUpTo}
 
 -- ---- the values of a reading
 
@@ -36,6 +37,12 @@ pub finite-all : (n : ℕ) (s : List ℕ) (at : ℕ) → finiteAll (wordsAt n s 
 unfolding finiteAll allFinite
 finite-all zero s at = refl
 finite-all (suc n) s at = ap (λ (t : Bool). finite (wordAt s at) && t) (finite-all n s (at + 4))
+
+pub finite-of : (x : List ℕ) (k : ℕ) → finiteAll x ≡ true → k < length x → finite (getD x k 0) ≡ true
+unfolding finiteAll
+finite-of [] k e h = absurd (let z : ⊥ = omega arith in z)
+finite-of (x ∷ xs) zero e h = both (finite x) (finiteAll xs) e .0
+finite-of (x ∷ xs) (suc k) e h = finite-of xs k (both (finite x) (finiteAll xs) e .1) (omega arith)
 
 -- the values that are left
 pub finite-more : (x : List ℕ) (most k : ℕ) → k < length x
@@ -54,15 +61,13 @@ word-of (suc n) s at (suc k) h = let e : at + 4 + 4 * k ≡ at + 4 * suc k = ome
 
 -- ---- the pairs
 
-pair-of : (n : ℕ) (s : List ℕ) (at k : ℕ) → k < n → getD (pairsAt n s at) k noPair ≡ pairAt s (at + 8 * k)
-pair-of zero s at k h = absurd (let z : ⊥ = omega arith in z)
-pair-of (suc n) s at zero h = let e : at ≡ at + 8 * 0 = omega arith in ap (pairAt s) e
-pair-of (suc n) s at (suc k) h = let e : at + 8 + 8 * k ≡ at + 8 * suc k = omega arith in pair-of n s (at + 8) k (omega arith) ∙ ap (pairAt s) e
+mapped : (ps : List Pair) (k : ℕ) → k < length ps → getD (map peakOf ps) k noPeak ≡ peakOf (getD ps k noPair)
+mapped [] k h = absurd (let z : ⊥ = omega arith in z)
+mapped (p ∷ ps) zero h = refl
+mapped (p ∷ ps) (suc k) h = mapped ps k (omega arith)
 
 peak-of : (n : ℕ) (s : List ℕ) (at k : ℕ) → k < n → getD (map peakOf (pairsAt n s at)) k noPeak ≡ peakOf (pairAt s (at + 8 * k))
-peak-of zero s at k h = absurd (let z : ⊥ = omega arith in z)
-peak-of (suc n) s at zero h = let e : at ≡ at + 8 * 0 = omega arith in ap (λ (j : ℕ). peakOf (pairAt s j)) e
-peak-of (suc n) s at (suc k) h = let e : at + 8 + 8 * k ≡ at + 8 * suc k = omega arith in peak-of n s (at + 8) k (omega arith) ∙ ap (λ (j : ℕ). peakOf (pairAt s j)) e
+peak-of n s at k h = mapped (pairsAt n s at) k (rw (pairs-many n s at) h) ∙ ap peakOf (pairs-get n s at k h)
 
 -- the six one by one, at the places that the code reads
 six-pairs : (s : List ℕ) (at : ℕ) → pairsAt channels s at ≡ pairAt s at ∷ pairAt s (at + 8) ∷ pairAt s (at + 16) ∷ pairAt s (at + 24) ∷ pairAt s (at + 32) ∷ pairAt s (at + 40) ∷ []
@@ -71,14 +76,6 @@ six-pairs s at = simp add-assoc
 pub six-decoded : (s : List ℕ) (at : ℕ) → let peak : ℕ → Peak = λ k. peakOf (pairAt s k) in
     record { peaks = peak at ∷ peak (at + 8) ∷ peak (at + 16) ∷ peak (at + 24) ∷ peak (at + 32) ∷ peak (at + 40) ∷ [] } ≡ decodedAt at s
 six-decoded s at = ap (λ (ps : List Pair). record { peaks = map peakOf ps }) (sym (six-pairs s at))
-
-length-pairs : (n : ℕ) (s : List ℕ) (at : ℕ) → length (pairsAt n s at) ≡ n
-length-pairs zero s at = refl
-length-pairs (suc n) s at = ap suc (length-pairs n s (at + 8))
-
-length-bytes : (n : ℕ) (ps : List Pair) (i : ℕ) → length (pairsBytes n ps i) ≡ 8 * n
-length-bytes zero ps i = refl
-length-bytes (suc n) ps i = omega (arith, length-bytes n ps (suc i))
 
 -- the bytes of one pair more
 bytes-more : (n : ℕ) (ps : List Pair) (i : ℕ) → pairsBytes (suc n) ps i ≡ pairsBytes n ps i ++ pairBytes (getD ps (i + n) noPair)
@@ -110,9 +107,6 @@ part-kept (suc n) d at s j h =
 
 -- two values of four bytes, each stored or not
 module _ (d : List ℕ) (at : ℕ) (v : List ℕ) (four : length v ≡ 4) (room : at + 8 ≤ length d) where
-  abbrev old : ℕ → List ℕ
-  old j = bytesAt 4 d (at + j)
-
   upper : put d (at + 4) v ≡ put d at (bytesAt 4 d at ++ v)
   upper = ap (λ (l : List ℕ). put l (at + 4) v) (sym (put-same 4 d at (omega arith))) ∙ put-put d at (bytesAt 4 d at) v (omega arith)
 
@@ -141,9 +135,9 @@ module _ (seen : Bool) (peaks : List Peak) (x sample d : List ℕ) (at : ℕ) wh
   unfolding seenUpTo
   seen-none = refl
 
-  pub seen-more : (k : ℕ) (e f : List ℕ) → e ≡ up k → f ≡ seenAt seen (getD peaks k noPeak) (getD x k 0) (bytesAt 4 sample (4 * k)) e (at + 8 * k) → f ≡ up (k + 1)
+  pub seen-more : (k : ℕ) (q : Peak) (e f : List ℕ) → e ≡ up k → q ≡ getD peaks k noPeak → f ≡ seenAt seen q (getD x k 0) (bytesAt 4 sample (4 * k)) e (at + 8 * k) → f ≡ up (k + 1)
   unfolding seenUpTo
-  seen-more k e f h l = rw (add-one k) (l ∙ ap (λ (t : List ℕ). seenAt seen (getD peaks k noPeak) (getD x k 0) (bytesAt 4 sample (4 * k)) t (at + 8 * k)) h)
+  seen-more k q e f h g l = rw (add-one k) (l ∙ ap₂ (λ (t : List ℕ) (r : Peak). seenAt seen r (getD x k 0) (bytesAt 4 sample (4 * k)) t (at + 8 * k)) h g)
 
   pub seen-done : (k n : ℕ) (e : List ℕ) → k ≤ n → n ≤ k → e ≡ up k → e ≡ up n
   seen-done k n e h l q = q ∙ ap up (le-antisymm h l)
@@ -155,7 +149,7 @@ bytes-cond true x y = refl
 bytes-cond false x y = refl
 
 module _ (p : Pair) (x : ℕ) (G : p .greatest < 0x100000000) (S : p .smallest < 0x100000000) (great : finite (p .greatest) ≡ true) (small : finite (p .smallest) ≡ true) where
-  pair-chosen : (r : Bool) → pairBytes (seen r p x) ≡ cond (raised r (peakOf p) x) (bytes4 x) (bytes4 (p .greatest)) ++ cond (lowered r (peakOf p) x) (bytes4 x) (bytes4 (p .smallest))
+  pair-chosen : (r : Bool) → pairBytes (seen r p x) ≡ cond (isRaised r (peakOf p) x) (bytes4 x) (bytes4 (p .greatest)) ++ cond (isLowered r (peakOf p) x) (bytes4 x) (bytes4 (p .smallest))
   pair-chosen false = refl
   pair-chosen true =
       rw (bits-back (p .greatest) G great, bits-back (p .smallest) S small) (ap₂ (_++_) (bytes-cond (less (p .greatest) x) x (p .greatest)) (bytes-cond (less x (p .smallest)) x (p .smallest)))
@@ -184,17 +178,17 @@ module _ (n : ℕ) (d sample : List ℕ) (at : ℕ) (reading : Bool) (B : Bytes 
     value = bytesAt 4 sample (4 * k)
 
     far : length before ≡ 8 * k
-    far = length-bytes k next 0
+    far = omega (arith, pairs-long k next 0)
 
     -- the pair of this channel is still that of the record
     kept : (j : ℕ) → bytesAt 4 (put d at before) (place + j) ≡ bytesAt 4 d (place + j)
     kept j = rw far at (part-kept 4 d at before j (omega (arith, far)))
 
     abbrev raising : Bool
-    raising = raised reading (peakOf (pairAt d place)) (wordAt sample (4 * k))
+    raising = isRaised reading (peakOf (pairAt d place)) (wordAt sample (4 * k))
 
     abbrev lowering : Bool
-    lowering = lowered reading (peakOf (pairAt d place)) (wordAt sample (4 * k))
+    lowering = isLowered reading (peakOf (pairAt d place)) (wordAt sample (4 * k))
 
     chosen : cond raising value (bytesAt 4 (put d at before) place) ++ cond lowering value (bytesAt 4 (put d at before) (place + 4)) ≡ pairBytes (seen reading (pairAt d place) (wordAt sample (4 * k)))
     chosen =
@@ -208,7 +202,7 @@ module _ (n : ℕ) (d sample : List ℕ) (at : ℕ) (reading : Bool) (B : Bytes 
     one-more =
         let long : length (put d at before) ≡ length d = length-put d at before (omega (arith, far)) in
         let this : getD next k noPair ≡ seen reading (pairAt d place) (wordAt sample (4 * k)) =
-        seen-at reading pairs sample 0 k (rw (length-pairs n d at) h) ∙ ap₂ (seen reading) (pair-of n d at k h) (ap (wordAt sample) (zero-add (4 * k))) in
+        seen-at reading pairs sample 0 k (rw (pairs-many n d at) h) ∙ ap₂ (seen reading) (pairs-get n d at k h) (ap (wordAt sample) (zero-add (4 * k))) in
         both-stored (put d at before) place value (length-part 4 sample (4 * k)) (omega (arith, long)) raising lowering
         ∙ ap (put (put d at before) place) chosen
         ∙ ap (λ (j : ℕ). put (put d at before) (at + j) (pairBytes (seen reading (pairAt d place) (wordAt sample (4 * k))))) (sym far)
@@ -268,7 +262,7 @@ module _ (s : List ℕ) (h : Sound s) where
   numbers-there : (k : ℕ) → k < channels → (finite (wordAt s (atPairs + 8 * k)) ≡ true) × (finite (wordAt s (atPairs + 8 * k + 4)) ≡ true)
   unfolding recordOf
   numbers-there k l =
-      subst (λ (p : Pair). (finite (p .greatest) ≡ true) × (finite (p .smallest) ≡ true)) (pair-of channels s atPairs k l)
+      subst (λ (p : Pair). (finite (p .greatest) ≡ true) × (finite (p .smallest) ≡ true)) (pairs-get channels s atPairs k l)
       (fit-finite (recordOf s .flags .reading) (getD (pairsAt channels s atPairs) k noPair) (h .fit .pairs k l))
 
   pub there : (v : ℕ) → There atPairs (marked s v)
@@ -309,7 +303,7 @@ module _ (s sample : List ℕ) (h : Sound s) (b : Bytes s) (c : Bytes sample) wh
       let t : There atPairs (flagged s) = there s h (bitOr flags 8) in
       up-to channels (flagged s) sample atPairs (r .flags .reading) (bytes-flagged s (omega (arith, sound-long s h)) b) c (t .pairs) (t .numbers) channels (omega arith)
       ∙ ap (λ (ps : List Pair). put (flagged s) atPairs (pairsBytes channels (seenAll (r .flags .reading) ps sample 0) 0)) (pairs-marked channels s (bitOr flags 8) atPairs (omega arith))
-      ∙ put-sets (flagged s) atPairs (pairsBytes channels later 0) (omega (arith, length-bytes channels later 0, t .pairs))
+      ∙ put-sets (flagged s) atPairs (pairsBytes channels later 0) (omega (arith, pairs-long channels later 0, t .pairs))
       ∙ ap (λ (l : List ℕ). sets l atPairs (pairsBytes channels later 0)) (ap flagged (h .same) ∙ set-reading r)
       ∙ set-pairs (withFlags r (withReading (r .flags) true)) later
 

@@ -8,7 +8,7 @@ use lib.Dec.{T}
 use lib.Ieee.{nan, isNan}
 use Rattle.wire.specs.Numbers.{wordAt, bytesAt, put}
 use Rattle.peak.specs.Pairs.{finite, pairsAt}
-use Rattle.peak.specs.Floats.{peakOf, raised, lowered}
+use Rattle.peak.specs.Floats.{peakOf, isRaised, isLowered}
 use Rattle.peak.specs.declared.Peak.{Peak}
 use Rattle.record.specs.Layout.{channels}
 use Rattle.reading.specs.declared.Decoded.{Decoded}
@@ -18,6 +18,7 @@ abbrev pub wordsAt : ℕ → List ℕ → ℕ → List ℕ
 wordsAt zero s at = []
 wordsAt (suc n) s at = wordAt s at ∷ wordsAt n s (at + 4)
 
+-- all of them are finite
 unfoldable pub finiteAll : List ℕ → Bool
 finiteAll [] = true
 finiteAll (x ∷ xs) = finite x && finiteAll xs
@@ -39,6 +40,7 @@ noPeak = record { greatest = nan; smallest = nan }
 abbrev pub Numbers : Peak → Type 0
 Numbers p = T (not (isNan (p .greatest))) × T (not (isNan (p .smallest)))
 
+-- so are both values of every pair
 abbrev pub AllNumbers : List Peak → Type 0
 AllNumbers peaks = (k : ℕ) → k < channels → Numbers (getD peaks k noPeak)
 
@@ -48,7 +50,7 @@ stored taken d at v = cond taken (put d at v) d
 
 -- with the value x of one channel, whose bytes are v, held against its pair
 abbrev pub seenAt : Bool → Peak → ℕ → List ℕ → List ℕ → ℕ → List ℕ
-seenAt seen p x v d at = stored (lowered seen p x) (stored (raised seen p x) d at v) (at + 4) v
+seenAt seen p x v d at = stored (isLowered seen p x) (stored (isRaised seen p x) d at v) (at + 4) v
 
 -- with the first n channels
 unfoldable pub seenUpTo : ℕ → Bool → List Peak → List ℕ → List ℕ → List ℕ → ℕ → List ℕ

@@ -5,7 +5,7 @@ ghost use Prim.Native.Nat.{_+_, _*_, _≤_, _<_};
 ghost use lib.ListN.{length};
 ghost use Rattle.wire.specs.Numbers.{wordAt, bytesAt};
 ghost use Rattle.peak.specs.Pairs.{finite, allFinite, pairAt};
-ghost use Rattle.peak.specs.Floats.{peakOf};
+ghost use Rattle.peak.specs.Floats.{peakOf, isRaised, isLowered, renewed};
 ghost use Rattle.record.specs.Layout.{channels, bytesOf, recordOf};
 ghost use Rattle.record.specs.InPlace.{Sound};
 ghost use Rattle.record.specs.Reading.{readingOf};
@@ -20,6 +20,7 @@ use peak::finite_float;
 use peak::lowers;
 use peak::raises;
 use peak::reach;
+use peak::updated;
 use record::places::AT_FLAGS;
 use record::places::AT_PAIRS;
 use record::places::READING;
@@ -87,25 +88,28 @@ fn put_if(taken: bool, rec: &mut [u8], at: usize, sample: &[u8], from: usize)
     }
 }
 
-// One channel: its pair at a place of the record, its value at a place of the sample.
-fn see(seen: bool, rec: &mut [u8], at: usize, p: Peak, x: u32, sample: &[u8], from: usize)
+// One channel: its pair at a place of the record, its value at a place of the sample. What is replaced in the pair is stored, and the pair returned as it is then.
+fn see(seen: bool, rec: &mut [u8], at: usize, p: Peak, x: u32, sample: &[u8], from: usize) -> Peak
     requires { ⌜ (at + 8 ≤ length (now rec)) × (from + 4 ≤ length (now sample)) ⌝ }
-    requires { ⌜ Numbers p ⌝ }
-    ensures { λ _. ⌜ now (rec .exit) ≡ seenAt seen p x (bytesAt 4 (now (sample .entry)) from) (now (rec .entry)) at ⌝ }
+    requires { ⌜ Numbers p × (finite x ≡ true) ⌝ }
+    ensures { λ r. ⌜ (r ≡ renewed p x (isRaised seen p x) (isLowered seen p x)) × (now (rec .exit) ≡ seenAt seen p x (bytesAt 4 (now (sample .entry)) from) (now (rec .entry)) at) ⌝ }
 {
-    put_if(raises(seen, p, x), rec, at, sample, from);
-    put_if(lowers(seen, p, x), rec, at + 4, sample, from);
+    let raised = raises(seen, p, x);
+    put_if(raised, rec, at, sample, from);
+    let lowered = lowers(seen, p, x);
+    put_if(lowered, rec, at + 4, sample, from);
+    updated(p, x, raised, lowered)
 }
 
 fn see_all(seen: bool, rec: &mut [u8], at: usize, was: Decoded, x: [u32; 6], sample: &[u8])
     requires { ⌜ (at + channels * 8 ≤ length (now rec)) × (length (now sample) ≡ 4 * channels) ⌝ }
-    requires { ⌜ AllNumbers (was .peaks) ⌝ }
+    requires { ⌜ AllNumbers (was .peaks) × (finiteAll x ≡ true) ⌝ }
     ensures { λ _. ⌜ now (rec .exit) ≡ seenUpTo channels seen (was .peaks) x (now (sample .entry)) (now (rec .entry)) at ⌝ }
 {
-    let p = was.peaks;
+    let mut p = was.peaks;
     let mut k = 0;
     while k < 6 {
-        see(seen, rec, at + 8 * k, p[k], x[k], sample, 4 * k);
+        p[k] = see(seen, rec, at + 8 * k, p[k], x[k], sample, 4 * k);
         k += 1;
     }
 }

@@ -5,8 +5,8 @@ use mathlib.Core.List.{List, [], _∷_, _++_}
 use native.Mathlib.Nat.{add-zero, zero-add, add-suc, suc-add, not-suc-le-zero, le-of-suc-le-suc}
 use native.Mathlib.Numerals.{towards-suc}
 use native.Mathlib.Omega.{arith}
-use lib.ListN.{length, getD, take, drop, set, length-set, drop-of-length-le}
-use lib.Seq.{sets, set-append-left, drop-cons, getD-drop}
+use lib.ListN.{length, getD, take, drop, set, length-set}
+use lib.Seq.{sets, set-append-left, getD-drop}
 use Rattle.wire.specs.Numbers.{Bytes, halfAt, wordAt, bytes2, bytes4, bytesAt}
 use Rattle.wire.proofs.NumberLaws.{half-bytes, word-back, word-bytes}
 use Rattle.peak.specs.Pairs.{Pair, noPair, pairAt, pairsAt, pairBytes, pairsBytes}
@@ -95,17 +95,3 @@ pairs-set (suc n) (p ∷ ps) (suc k) v e h =
     (sets-behind 8 (pairsBytes (suc n) (p ∷ ps) 0) (8 * k) (pairBytes v)
     ∙ ap (λ (l : List ℕ). pairBytes p ++ l)
     (ap (λ (l : List ℕ). sets l (8 * k) (pairBytes v)) (pairs-shift n p ps 0) ∙ pairs-set n ps k v (omega arith) (omega arith) ∙ sym (pairs-shift n p (set ps k v) 0)))
-
--- ---- a list by its elements
-
-module _ {A : Type 0} (d : A) where
-  abbrev pub elements : ℕ → List A → ℕ → List A
-  elements zero l j = []
-  elements (suc n) l j = getD l j d ∷ elements n l (suc j)
-
-  elements-from : (n : ℕ) (l : List A) (j : ℕ) → j + n ≡ length l → elements n l j ≡ drop j l
-  elements-from zero l j h = sym (drop-of-length-le l {i = j} (omega arith))
-  elements-from (suc n) l j h = ap (λ (t : List A). getD l j d ∷ t) (elements-from n l (suc j) (omega arith)) ∙ sym (drop-cons l j d (omega arith))
-
-  pub elements-all : (n : ℕ) (l : List A) → length l ≡ n → elements n l 0 ≡ l
-  elements-all n l h = elements-from n l 0 (omega arith)

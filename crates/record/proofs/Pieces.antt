@@ -28,7 +28,7 @@ use Rattle.record.specs.Laid.{Laid, coreParts, radioParts}
 
 -- ---- pairs, any number of them
 
-pairs-long : (n : ℕ) (ps : List Pair) (i : ℕ) → length (pairsBytes n ps i) ≡ n * 8
+pub pairs-long : (n : ℕ) (ps : List Pair) (i : ℕ) → length (pairsBytes n ps i) ≡ n * 8
 pairs-long zero ps i = omega arith
 pairs-long (suc n) ps i = omega (arith, pairs-long n ps (suc i))
 
@@ -151,12 +151,12 @@ inputs-fit c at e (suc (suc (suc zero))) = fits-is (inputRange (getD c 3 0)) (fi
 inputs-fit c at e (suc (suc (suc (suc zero)))) = fits-is (inputRange (getD c 4 0)) (fine-at (several 5 1 (λ k. fits (inputRange (getD c k 0))) at 0) e 4)
 inputs-fit c at e (suc (suc (suc (suc (suc i))))) = refl
 
-pairs-get : (n : ℕ) (s : List ℕ) (at k : ℕ) → k < n → getD (pairsAt n s at) k noPair ≡ pairAt s (at + 8 * k)
+pub pairs-get : (n : ℕ) (s : List ℕ) (at k : ℕ) → k < n → getD (pairsAt n s at) k noPair ≡ pairAt s (at + 8 * k)
 pairs-get zero s at k h = absurd (not-suc-le-zero h)
 pairs-get (suc n) s at zero h = let z : at + 8 * 0 ≡ at = omega arith in ap (pairAt s) (sym z)
 pairs-get (suc n) s at (suc k) h = let z : at + 8 + 8 * k ≡ at + 8 * suc k = omega arith in pairs-get n s (at + 8) k (le-of-suc-le-suc h) ∙ ap (pairAt s) z
 
-pairs-many : (n : ℕ) (s : List ℕ) (at : ℕ) → length (pairsAt n s at) ≡ n
+pub pairs-many : (n : ℕ) (s : List ℕ) (at : ℕ) → length (pairsAt n s at) ≡ n
 pairs-many zero s at = refl
 pairs-many (suc n) s at = ap suc (pairs-many n s (at + 8))
 

@@ -1,15 +1,15 @@
 -- Words of bytes, low byte first, and parts of a list written over each other.
-use Prim.Native.Nat.{ℕ, zero, suc, _+_, _-_, _*_, _/_, _%_, _^_, _≤_, _<_}
-use mathlib.Core.Path.{_≡_, refl, sym, ap, ap₂, _∙_}
+use Prim.Native.Nat.{ℕ, zero, suc, _+_, _-_, _/_, _≤_, _<_}
+use mathlib.Core.Path.{_≡_, refl, sym, ap, _∙_}
 use mathlib.Core.Logic.{_⊎_, ⊎-elim}
 use mathlib.Core.List.{List, [], _∷_, _++_, append-assoc}
-use native.Mathlib.Nat.{div-div-eq-div-mul, add-zero, zero-add, suc-add, add-assoc, mul-assoc, pow-suc, mod-eq-of-lt}
+use native.Mathlib.Nat.{add-zero, add-assoc}
 use native.Mathlib.Omega.{arith}
 use lib.ListN.{length, getD, take, drop, set, replicate, length-append, length-drop, length-replicate, take-append-drop}
 use lib.Seq.{take-take, take-add, length-take-le, take-append-le, drop-append-add, drop-drop, take-all, take-at, drop-at, set-set}
 use Rattle.wire.specs.Numbers.{bytesAt, put}
-use Rattle.wire.proofs.NumberLaws.{part-is, part-part}
-use Rattle.wire.proofs.PutLaws.{put-nil, put-put, length-put, put-one, put-two, put-three, put-four}
+use Rattle.wire.proofs.NumberLaws.{part-is}
+use Rattle.wire.proofs.PutLaws.{put-nil, put-put, length-put, put-one, put-two, put-three}
 use Rattle.low.specs.Low.{lowBytes}
 
 -- ---- parts written over each other

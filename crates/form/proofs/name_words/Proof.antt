@@ -1,5 +1,4 @@
 -- `name_words`: the highest bits of both words, and what a shift leaves of them.
-use native.Mathlib.Omega.{arith}
 use Rattle.form.proofs.Names.{low-above, high-above, named-short, named-long}
 use borrow.Author.Needs.{needs}
 use Rattle.form.proofs.name_words.Statement.{statement}

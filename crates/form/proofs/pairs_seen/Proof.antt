@@ -54,7 +54,7 @@ returns c =
     let z = c .before .before .before .before .before .before .before in
     let l = c .before .before .before .before .before .loop in
     let a = z .args in
-    left-out (a .s .now) (a .from) channels (l .i) (ltb (l .most) 0x7F800000) (omega arith) (sym (order (c .before)) ∙ c .if1 .taken) ∙ sym (l .inv .1) ∙ left-all (a .s .now) (a .from) channels
+    left-out (a .s .now) (a .from) channels (l .i) (l .most) (omega arith) (sym (order (c .before)) ∙ c .if1 .taken) ∙ sym (l .inv .1) ∙ left-all (a .s .now) (a .from) channels
 
 reach-requires : tie.Need-reach-requires Inv-loop μ-loop
 reach-requires c κs = omega arith

@@ -5,6 +5,7 @@ use borrow.Author.Tests.{not-true, not-false}
 use Rattle.peak.specs.Pairs.{allFinite}
 use Rattle.reading.specs.Decoded.{finiteAll}
 use Rattle.reading.proofs.Readings.{finite-all}
+use Rattle.record.specs.Layout.{channels}
 use Rattle.record.specs.Form.{formOf}
 use Rattle.record.specs.declared.Form.the-variants.{Good}
 use Rattle.call.proofs.Ends.{good-sound}
@@ -17,10 +18,10 @@ good : (c : tie.After-enum-told) → formOf (c .before .before .before .before .
 good c = sym (c .before .before .form-of .ensures) ∙ c .enum-told .given .1
 
 -- all values are finite exactly when those of the sample are
-all : (c : tie.After-finite-values) → c .finite-values .result ≡ allFinite 6 (c .before .before .before .before .before .before .before .before .before .before .before .args .sample .now) 0
-all c = c .finite-values .ensures ∙ ap finiteAll (c .before .values-of .ensures) ∙ finite-all 6 (c .before .before .before .before .before .before .before .before .before .before .before .args .sample .now) 0
+all : (c : tie.After-finite-values) → c .finite-values .result ≡ allFinite channels (c .before .before .before .before .before .before .before .before .before .before .before .args .sample .now) 0
+all c = c .finite-values .ensures ∙ ap finiteAll (c .before .values-of .ensures) ∙ finite-all channels (c .before .before .before .before .before .before .before .before .before .before .before .args .sample .now) 0
 
-finite : (c : tie.Else3) → allFinite 6 (c .before .before .before .before .before .before .before .before .before .before .before .before .args .sample .now) 0 ≡ true
+finite : (c : tie.Else3) → allFinite channels (c .before .before .before .before .before .before .before .before .before .before .before .before .args .sample .now) 0 ≡ true
 finite c = sym (all (c .before)) ∙ not-false (c .before .finite-values .result) (c .if3 .left)
 
 form-of-requires : tie.Need-form-of-requires

@@ -1,5 +1,5 @@
 -- `above`: each way out is what the keys say for patterns of that sign.
-use Prim.Native.Nat.{_≤_, _<_}
+use Prim.Native.Nat.{_<_}
 use mathlib.Core.Path.{sym, _∙_}
 use borrow.Author.Tests.{leb-true, leb-false}
 use Rattle.peak.proofs.Patterns.{turned, above-negative, above-zero, above-further, above-not}

@@ -1,6 +1,6 @@
 -- `below`: each way out is what the keys say for patterns of that sign.
 use Prim.Native.Nat.{_≤_}
-use mathlib.Core.Path.{refl, sym, _∙_}
+use mathlib.Core.Path.{sym, _∙_}
 use borrow.Author.Tests.{leb-true, leb-false}
 use Rattle.peak.proofs.Patterns.{below-zero, below-further, below-not, below-turned}
 use borrow.Author.Needs.{needs}

@@ -1,4 +1,4 @@
--- `finite_float`: a finite pattern is a float that compares.
+-- `finite_float`: a finite pattern is no NaN's, so its float is the one of its bits.
 use mathlib.Core.Path.{sym}
 use Rattle.peak.proofs.Order.{no-nan, float-is}
 use Rattle.peak.proofs.finite_float.Statement.{statement}

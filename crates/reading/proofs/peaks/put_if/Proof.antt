@@ -1,7 +1,5 @@
 -- `put_if`: a value that is taken is stored by one word.
 use mathlib.Core.Path.{ap, _∙_}
-use mathlib.Core.List.{List}
-use Prim.Native.Nat.{ℕ}
 use Rattle.wire.specs.Numbers.{put}
 use borrow.Author.Needs.{needs}
 use Rattle.reading.proofs.peaks.put_if.Statement.{statement}

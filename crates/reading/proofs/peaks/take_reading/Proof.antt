@@ -1,11 +1,11 @@
 -- `take_reading`: the record after a reading, with its flag.
-use mathlib.Core.Path.{refl, sym, subst, _∙_}
+use mathlib.Core.Path.{refl, sym, ap, subst, _∙_}
 use native.Mathlib.Omega.{arith}
 use lib.ListN.{length-set}
-use Rattle.record.specs.Layout.{atFlags, recordOf}
-use Rattle.reading.specs.Decoded.{AllNumbers}
+use Rattle.record.specs.Layout.{channels, atFlags, recordOf}
+use Rattle.reading.specs.Decoded.{AllNumbers, finiteAll}
 use Rattle.reading.specs.declared.Decoded.{Decoded}
-use Rattle.reading.proofs.Readings.{sound-long, there, all-numbers, taken}
+use Rattle.reading.proofs.Readings.{finite-all, sound-long, there, all-numbers, taken}
 use Rattle.reading.proofs.peaks.take_reading.Statement.{statement}
 use Rattle.reading.proofs.peaks.take_reading.Tie as tie
 
@@ -22,7 +22,7 @@ see-all-requires : tie.Need-see-all-requires
 see-all-requires c κs =
     let z = c .before .before .before .before .before .before in
     let s = z .args .rec .now in
-    ((there s (z .pre .0) _ .pairs, z .pre .1 .0 .0), subst (λ (d : Decoded). AllNumbers (d .peaks)) (sym (c .before .decode .ensures)) (all-numbers s (z .pre .0) _))
+    ((there s (z .pre .0) _ .pairs, z .pre .1 .0 .0), (subst (λ (d : Decoded). AllNumbers (d .peaks)) (sym (c .before .decode .ensures)) (all-numbers s (z .pre .0) _), ap finiteAll (z .pre .1 .0 .1) ∙ finite-all channels (z .args .sample .now) 0 ∙ z .pre .1 .1))
 
 same-length : tie.Need-same-length
 same-length c =
