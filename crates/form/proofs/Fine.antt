@@ -51,7 +51,7 @@ both-not a b e = rw e refl
 
 -- ---- the name
 
-module _ (s : List ℕ) (whole : atModel ≤ length s) where
+module _ (s : List ℕ) where
   abbrev name : ℕ
   name = getD s atNameLength 0
 

@@ -73,7 +73,7 @@ plain-is (suc n) w =
     ∙ ap₂ (_&&_) (byte-bit (w % 256) (omega arith)) (plain-is n (w / 256)) ∙ sym (plain-cons (w % 256) (nameRange (lowBytes n (w / 256))))
 
 -- zeros may stand in a name, so that a name and the zeros behind it are tested as one
-name-zero : (l : List ℕ) → allZero l ≡ true → fits (nameRange l) ≡ true
+name-zero : (l : List ℕ) → allZero l ≡ true → plain l ≡ true
 unfolding allZero nameRange
 name-zero [] e = refl
 name-zero (zero ∷ l) e = name-zero l e
@@ -82,13 +82,13 @@ name-zero (suc b ∷ l) e =
     let z : _≡_ {A = ℕ} 0 1 = cc in
     absurd (omega arith)
 
-room-name : (n : ℕ) (l : List ℕ) → (plain (take n l) && allZero (drop n l)) ≡ (fits (nameRange l) && allZero (drop n l))
+room-name : (n : ℕ) (l : List ℕ) → (plain (take n l) && allZero (drop n l)) ≡ (plain l && allZero (drop n l))
 unfolding nameRange
 room-name zero l = by (allZero l) refl
   where
-    by : (t : Bool) → allZero l ≡ t → t ≡ (fits (nameRange l) && t)
+    by : (t : Bool) → allZero l ≡ t → t ≡ (plain l && t)
     by true e = rw (name-zero l e) refl
-    by false e = no (fits (nameRange l))
+    by false e = no (plain l)
       where
         no : (b : Bool) → false ≡ (b && false)
         no true = refl
@@ -96,14 +96,14 @@ room-name zero l = by (allZero l) refl
 room-name (suc n) [] = refl
 room-name (suc n) (b ∷ l) = by (leb b 0x7F) (room-name n l)
   where
-    by : (t : Bool) → (plain (take n l) && allZero (drop n l)) ≡ (fits (nameRange l) && allZero (drop n l))
+    by : (t : Bool) → (plain (take n l) && allZero (drop n l)) ≡ (plain l && allZero (drop n l))
         → (fits (also (cond t Fits Big) (nameRange (take n l))) && allZero (drop n l)) ≡ (fits (also (cond t Fits Big) (nameRange l)) && allZero (drop n l))
     by true e = e
     by false e = refl
 
 -- ---- the two words
 
-module _ (low high n : ℕ) (whole : low < 0x10000000000000000) (seven : high < 0x100000000000000) where
+module _ (low high n : ℕ) where
   abbrev room : List ℕ
   room = lowBytes 8 low ++ lowBytes 7 high
 
@@ -124,7 +124,7 @@ module _ (low high n : ℕ) (whole : low < 0x10000000000000000) (seven : high < 
       no true b = refl
       no false b = refl
 
-  module _ (l : bitAnd low 0x8080808080808080 ≡ 0) (h : bitAnd high 0x80808080808080 ≡ 0) where
+  module _ (whole : low < 0x10000000000000000) (seven : high < 0x100000000000000) (l : bitAnd low 0x8080808080808080 ≡ 0) (h : bitAnd high 0x80808080808080 ≡ 0) where
     zeros-left : named ≡ allZero (drop n room)
     zeros-left = named-is ∙ rw (sym (plain-is 8 low) ∙ eq-eqb (bitAnd low 0x8080808080808080) 0 l, sym (plain-is 7 high) ∙ eq-eqb (bitAnd high 0x80808080808080) 0 h) refl
 

@@ -33,7 +33,7 @@ pub fn finite_float(x: u32) -> f32
 }
 
 // The pattern of a float that is a number.
-pub fn bits_of(f: f32) -> u32
+fn bits_of(f: f32) -> u32
     requires { ⌜ T (not (isNan f)) ⌝ }
     ensures { λ r. ⌜ r ≡ bitsOf f ⌝ }
 {
@@ -72,7 +72,7 @@ pub fn above(x: u32, y: u32) -> bool
 }
 
 // Whether x is strictly smaller than y.
-pub fn below(x: u32, y: u32) -> bool
+fn below(x: u32, y: u32) -> bool
     ensures { λ r. ⌜ r ≡ less x y ⌝ }
 {
     if negative(x) {

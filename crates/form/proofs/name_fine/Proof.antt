@@ -14,7 +14,7 @@ cast-n : tie.Need-cast-n
 cast-n c = omega (arith, c .shared-slice-known2 .given atNameLength)
 
 returns : tie.Need-returns
-returns c = let z = c .before .before .before in name-long (z .args .s .now) (z .pre) (c .if1 .taken)
+returns c = let z = c .before .before .before in name-long (z .args .s .now) (c .if1 .taken)
 
 eight-at-requires : tie.Need-eight-at-requires
 eight-at-requires c κs = search needs
@@ -31,7 +31,7 @@ name-words-requires c κs = search needs
 returns-2 : tie.Need-returns-2
 returns-2 c =
     let z = c .before .before .before .before .before .before in
-    name-by (z .args .s .now) (z .pre) (omega (arith, c .before .before .before .if1 .left)) _ _
+    name-by (z .args .s .now) (omega (arith, c .before .before .before .if1 .left)) _ _
     (two-words (z .args .s .now) atName (c .before .before .eight-at .result) (c .before .eight-at2 .result) (c .before .before .eight-at .ensures) (c .before .eight-at2 .ensures)) (c .name-words .ensures)
 
 pub name-fine-spec : {M : Type 1} → statement M

@@ -5,10 +5,10 @@ use Rattle.form.proofs.name_words.Statement.{statement}
 use Rattle.form.proofs.name_words.Tie as tie
 
 returns : tie.Need-returns
-returns c = let z = c .before in low-above (z .args .low) (z .args .high) (z .args .n) (z .fits .low .fits) (z .pre .1) (c .if1 .taken)
+returns c = let z = c .before in low-above (z .args .low) (z .args .high) (z .args .n) (c .if1 .taken)
 
 returns-2 : tie.Need-returns-2
-returns-2 c = let z = c .before .before in high-above (z .args .low) (z .args .high) (z .args .n) (z .fits .low .fits) (z .pre .1) (c .if2 .taken)
+returns-2 c = let z = c .before .before in high-above (z .args .low) (z .args .high) (z .args .n) (c .if2 .taken)
 
 mul-result : tie.Need-mul-result
 mul-result c = search needs
