@@ -1,10 +1,11 @@
 /*
- * The radio board of a dental imaging chair: four calls over a record of 123 bytes that the caller keeps.
- * examples/chair.c is a whole program.
+ * The radio board of a dental imaging chair: four calls over a record of 123 bytes that the caller keeps, and
+ * one that reads what a board said. examples/chair.c and examples/capture.c are whole programs.
  *
  * Once, where the chair is made: board_factory, write the practice's code into the record, store it.
  * At each start: load the record, board_power_on.
  * While running: board_bytes as bytes arrive, board_samples as readings are measured.
+ * At the desk: board_read on the bytes that came from a board.
  */
 #ifndef BOARD_H
 #define BOARD_H
@@ -18,8 +19,8 @@ extern "C" {
 
 /*
  * WARNING. What a call cannot check and the caller has to see to:
- *   - The record, the input and the output of one call must not overlap, not even by a byte.
- *   - A length must be true: the buffer has at least so many bytes.
+ *   - The buffers of one call must not overlap, not even by a byte.
+ *   - A length must be true: the buffer has at least so many bytes, a list at least so many numbers.
  *   - Nobody else writes to a buffer during the call.
  *   - A null pointer is allowed with length 0 only.
  * If one of these is broken, anything may happen. The bytes themselves may be any.
@@ -27,9 +28,9 @@ extern "C" {
 
 /* This header's version; the packages in pkgconfig/ and cmake/ have the same. */
 #define BOARD_VERSION_MAJOR 1
-#define BOARD_VERSION_MINOR 0
-#define BOARD_VERSION_PATCH 3
-#define BOARD_VERSION "1.0.3"
+#define BOARD_VERSION_MINOR 1
+#define BOARD_VERSION_PATCH 0
+#define BOARD_VERSION "1.1.0"
 
 /*
  * An archive with another record than this header's refuses board_factory with BOARD_BAD_RECORD, or leaves
@@ -57,13 +58,14 @@ extern "C" {
 enum board_result {
     BOARD_DONE = 0,       /* done */
     BOARD_BAD_RECORD = 1, /* record not 123 bytes or not well formed (factory: only the length) */
-    BOARD_BAD_LENGTH = 2, /* bytes: input over 4,096; samples: not 24 */
-    BOARD_NO_ROOM = 3,    /* bytes: output shorter than BOARD_ROOM; samples: than 28, also with sending off */
+    BOARD_BAD_LENGTH = 2, /* bytes: input over 4,096; samples: not 24; read: capture over 4,096 */
+    BOARD_NO_ROOM = 3,    /* bytes: output shorter than BOARD_ROOM; samples: than 28, also with sending off;
+                             read: list of fewer entries than BOARD_ENTRIES */
     BOARD_NOT_FINITE = 4  /* samples: a sample is infinite or not a number */
 };
 
 /*
- * What every call returns: a result, the bytes written to the output and the bytes that the hunt skipped.
+ * What a call over a record returns: a result, bytes written to the output, bytes that the hunt skipped.
  * A refusal (any result but BOARD_DONE) has zero counts and has written to no buffer.
  * Output behind the written bytes is unchanged.
  */
@@ -93,6 +95,37 @@ struct board_answer board_bytes(uint8_t *record, size_t record_len, const uint8_
  */
 struct board_answer board_samples(uint8_t *record, size_t record_len, const uint8_t *sample,
                                   size_t sample_len, uint8_t *output, size_t output_len);
+
+/*
+ * What a board said. Four numbers of a list are one entry: a reply (head 5n or 6n) or a measuring frame
+ * (head 15, status B0). BOARD_ENTRY_ is where a number stands in its entry; those of entry i begin at
+ * BOARD_ENTRY_NUMBERS * i.
+ */
+#define BOARD_ENTRY_HEAD 0   /* the head byte: 50 to 5F, 60 to 6F or 15 */
+#define BOARD_ENTRY_STATUS 1 /* the status byte; 0 for a long reply, whose head is 5F or 6F */
+#define BOARD_ENTRY_PLACE 2  /* where its data begin in the capture; without data, behind the status */
+#define BOARD_ENTRY_COUNT 3  /* its data bytes: 0 to 14, 24, in a long reply 15 to 270 */
+#define BOARD_ENTRY_NUMBERS 4
+
+/* The longest capture, and the entries for which board_read wants room: one for every four bytes of it. */
+#define BOARD_CAPTURE_MOST 4096
+#define BOARD_ENTRIES(capture_len) ((size_t)(capture_len) / 4)
+
+/*
+ * What board_read returns: a result, the entries written, the bytes that are no frame, and the bytes at the
+ * end that may yet become one. Sizes of frames, skipped and unread bytes add up to the capture.
+ */
+struct board_reading {
+    uint32_t result, entries, skipped, unread;
+};
+
+/*
+ * Every reply and measuring frame of a capture, in its order. Bytes that are no frame are skipped one at a
+ * time, as board_bytes does; an unfinished frame at the end is left unread: give its bytes again with those
+ * that follow. All that board_bytes and board_samples wrote is read back, nothing skipped.
+ * list_len counts numbers; numbers behind the last entry are unchanged.
+ */
+struct board_reading board_read(const uint8_t *capture, size_t capture_len, uint32_t *list, size_t list_len);
 
 /*
  * The record. It may be read between calls; writing is left to the calls, but for the code.
@@ -163,7 +196,7 @@ struct board_answer board_samples(uint8_t *record, size_t record_len, const uint
  * interrupt; two calls on the same record, or with the same output, may not.
  *
  * The archive is x86-64 code for the System V calling convention (SSE2, position independent). It calls
- * memset and nothing else, takes buffers at any alignment, and was measured to use at most 840
+ * memset and nothing else, takes byte buffers at any alignment, and was measured to use at most 840
  * bytes of stack (docs/PERFORMANCE.md; reserve 1,024).
  *
  * Another controller. The kit compiles for x86-64 alone. Elsewhere there are two ways, neither proved:
