@@ -8,9 +8,11 @@ use native.Mathlib.Omega.{arith}
 use lib.ListN.{length, getD, take, drop, length-append, List·getD-append}
 use lib.Seq.{take-append-le, length-take-le}
 use lib.Dec.{leb, eqb}
-use borrow.Author.Tests.{leb-false, leb-true, le-leb, eqb-true}
+use borrow.Author.Tests.{leb-false, leb-true, le-leb, lt-leb, eqb-true}
 use Rattle.wire.specs.Numbers.{Bytes}
-use Rattle.wire.specs.Frames.{Size, NoHead, NeedMore, Of, Heads, Look, Skip, Wait, Take, Tear, settle, weigh, look, Piece, Whole, Broken, sizes, All, Cut, stop, skipOne, takeOne, tearOne, onward, cutFrom, cut, isWait, waits}
+use Rattle.wire.specs.declared.Size.{Size}
+use Rattle.wire.specs.declared.Size.the-variants.{NoHead, NeedMore, Of}
+use Rattle.wire.specs.Frames.{Heads, Look, Skip, Wait, Take, Tear, settle, weigh, look, Piece, Whole, Broken, sizes, All, Cut, stop, skipOne, takeOne, tearOne, onward, cutFrom, cut, isWait, waits}
 use Rattle.wire.proofs.NumberLaws.{bytes-take, bytes-drop}
 
 -- a size once said does not change when more bytes follow
@@ -63,6 +65,30 @@ wait-is Tear e = let z : _≡_ {A = ℕ} 0 1 = cc in absurd (omega arith)
 empty-is : (l : List ℕ) → eqb (length l) 0 ≡ true → l ≡ []
 empty-is [] e = refl
 empty-is (x ∷ l) e = absurd (omega (arith, eqb-true (length (x ∷ l)) 0 e))
+
+-- ---- a decision, by the size that the front announces
+
+module _ (h : Heads) (l : List ℕ) where
+  pub look-headless : h .size l ≡ NoHead → look h l ≡ Skip
+  unfolding look
+  look-headless e = rw e refl
+
+  pub look-unsaid : h .size l ≡ NeedMore → look h l ≡ Wait
+  unfolding look
+  look-unsaid e = rw e refl
+
+  module _ (n : ℕ) (e : h .size l ≡ Of n) where
+    pub look-unfinished : length l < 4 + n → look h l ≡ Wait
+    unfolding look
+    look-unfinished p = rw (e, lt-leb (4 + n) (length l) p) refl
+
+    pub look-torn : 4 + n ≤ length l → h .sound (take (4 + n) l) ≡ false → look h l ≡ Tear
+    unfolding look
+    look-torn p s = rw (e, le-leb (4 + n) (length l) p, s) refl
+
+    pub look-frame : 4 + n ≤ length l → h .sound (take (4 + n) l) ≡ true → look h l ≡ Take n
+    unfolding look
+    look-frame p s = rw (e, le-leb (4 + n) (length l) p, s) refl
 
 module _ (h : Heads) where
   -- a frame that is carried out is there whole and sound, and has the size that its front says

@@ -1,12 +1,15 @@
 pub mod NumberLaws
 pub mod CutLaws
 pub mod Stretches
+pub mod HeadLaws
 pub mod SerialLaws
+pub mod ReaderLaws
+pub mod LineLaws
+pub mod PlacedLaws
 pub mod RunLaws
 pub mod AlongLaws
 pub mod PutLaws
 pub mod ReplyLaws
 pub mod HuntRows
-pub mod HeadLaws
 pub mod ScanLaws
 pub mod ZeroLaws

@@ -5,12 +5,8 @@ use mathlib.Core.List.{List, [], _∷_}
 use mathlib.Core.Bool.{Bool, true, false, _||_}
 use lib.ListN.{length, getD, take, drop}
 use lib.Dec.{leb, eqb}
-
--- what the front of a stream says of a frame's size: none begins here, more bytes are needed to say, 4 + n bytes
-pub data Size : Type 0 where
-  NoHead : Size
-  NeedMore : Size
-  Of : ℕ → Size
+use Rattle.wire.specs.declared.Size.{Size}
+use Rattle.wire.specs.declared.Size.the-variants.{NoHead, NeedMore, Of}
 
 -- a set of heads: the size that the front announces, and whether all the bytes of a candidate are a frame
 pub record Heads : Type 0 where
@@ -96,6 +92,32 @@ cutFrom h (suc k) (x ∷ l) = cutFrom h k l
 
 abbrev pub cut : Heads → List ℕ → Cut
 cut h l = cutFrom h 0 l
+
+-- ---- the frames with their places
+
+-- a whole frame, and where it begins
+pub record Placed : Type 0 where
+  pub at : ℕ
+  pub frame : List ℕ
+
+-- one decision and what follows, as `onward`, at a place
+abbrev pub placedOn : Look → ℕ → List ℕ → (ℕ → List Placed) → List Placed
+placedOn Skip at l go = go 0
+placedOn Wait at l go = []
+placedOn (Take n) at l go = record { at = at; frame = take (4 + n) l } ∷ go (3 + n)
+placedOn Tear at l go = go 0
+
+-- the frames that `cutFrom` takes from a stream that begins at a place
+unfoldable pub placedFrom : Heads → ℕ → ℕ → List ℕ → List Placed
+unfolding look
+placedFrom h at k [] = []
+placedFrom h at zero (x ∷ l) = placedOn (look h (x ∷ l)) at (x ∷ l) (λ k. placedFrom h (at + 1) k l)
+placedFrom h at (suc k) (x ∷ l) = placedFrom h (at + 1) k l
+
+abbrev pub placed : Heads → List ℕ → List Placed
+placed h l = placedFrom h 0 0 l
+
+-- ---- what may wait
 
 -- the front waits
 abbrev pub isWait : Look → Bool

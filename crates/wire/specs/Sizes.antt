@@ -17,6 +17,14 @@ waitMost = 18
 abbrev pub inputMost : ℕ
 inputMost = 4096
 
+-- "six 32-bit floats": the data of a measuring frame
+abbrev pub sixValues : ℕ
+sixValues = 24
+
+-- "captures of whole frames and at most 4,096 bytes"
+abbrev pub captureMost : ℕ
+captureMost = 4096
+
 -- waiting bytes and input
 abbrev pub streamMost : ℕ
 streamMost = waitMost + inputMost

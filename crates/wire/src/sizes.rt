@@ -1,5 +1,8 @@
 // The sizes that a stream goes by, in numbers.
 
+// The parameters of a frame, the data of a reply.
+pub const DATA_MOST: usize = 15;
+
 // A frame or a reply.
 pub const FRAME_MOST: usize = 19;
 
@@ -8,6 +11,14 @@ pub const WAIT_MOST: usize = 18;
 
 // What one call takes.
 pub const INPUT_MOST: usize = 4096;
+
+// The data of a measuring frame.
+pub const SIX_VALUES: usize = 24;
+
+// What the reader takes, in bytes, and the numbers of each entry that it gives.
+pub const CAPTURE_MOST: usize = 4096;
+
+pub const ENTRY_NUMBERS: usize = 4;
 
 // Waiting bytes and what a candidate that starts in them can reach of the input.
 pub const JOIN_MOST: usize = WAIT_MOST + FRAME_MOST;
