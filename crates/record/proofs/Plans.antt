@@ -1,13 +1,14 @@
 -- Each layout meets what is asked of it, by computing.
-use Prim.Native.Nat.{ℕ, _+_, _%_, _≤_}
-use mathlib.Core.Path.{_≡_, refl}
-use mathlib.Core.Bool.{Bool, true, false, cond, _&&_}
+use Prim.Native.Nat.{_%_}
+use mathlib.Core.Path.{refl}
+use mathlib.Core.Bool.{cond, _&&_}
 use native.Mathlib.Omega.{arith}
 use lib.Dec.{leb}
 use Rattle.wire.specs.Sizes.{frameMost}
-use Rattle.wire.specs.Serial.{Fixed, NotHead, endsIn85}
+use Rattle.wire.specs.Heads.{Fixed, NotHead, endsIn85}
 use Rattle.wire.proofs.CutLaws.{Under, waits-short}
-use Rattle.wire.proofs.SerialLaws.{fronted-under, pending-short}
+use Rattle.wire.proofs.HeadLaws.{fronted-under}
+use Rattle.wire.proofs.SerialLaws.{low-half, pending-short}
 use Rattle.record.specs.Layout.{current, plan1, plan2, plan3, seatHeads, seat}
 use Rattle.record.specs.Laid.{Laid}
 
@@ -20,13 +21,9 @@ laid2 = record { apart = refl; core = refl; radio = refl; size = omega arith; ve
 pub laid3 : Laid plan3
 laid3 = record { apart = refl; core = refl; radio = refl; size = omega arith; version = omega arith; room = omega arith; filters = omega arith; short = λ l t. omega (arith, pending-short l t) }
 
-seat-by : (t : Bool) (b n : ℕ) → cond t (Fixed (b % 16)) NotHead ≡ Fixed n → 4 + n ≤ frameMost
-seat-by true b n e = let q : b % 16 ≡ n = cc in omega arith
-seat-by false b n e = let z : _≡_ {A = ℕ} 0 1 = cc in absurd (omega arith)
-
 seat-under : Under seatHeads frameMost
 unfolding seatHeads
-seat-under = fronted-under (λ b. cond (leb 0x90 b && leb b 0x9F) (Fixed (b % 16)) NotHead) endsIn85 frameMost (λ b n e. seat-by (leb 0x90 b && leb b 0x9F) b n e) (omega arith)
+seat-under = fronted-under (λ b. cond (leb 0x90 b && leb b 0x9F) (Fixed (b % 16)) NotHead) endsIn85 frameMost (λ b. low-half (leb 0x90 b && leb b 0x9F) b) (omega arith)
 
 pub laid-seat : Laid seat
 laid-seat = record { apart = refl; core = refl; radio = refl; size = omega arith; version = omega arith; room = omega arith; filters = omega arith; short = λ l t. omega (arith, waits-short seatHeads frameMost seat-under l t) }

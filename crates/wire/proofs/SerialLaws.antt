@@ -38,7 +38,8 @@ module _ (h : Heads) (ok : Huntable h) where
 
 -- ---- 9n and An
 
-low-half : (t : Bool) (b : ℕ) → Brief (cond t (Fixed (b % 16)) NotHead) frameMost
+-- n is the low half of a head
+pub low-half : (t : Bool) (b : ℕ) → Brief (cond t (Fixed (b % 16)) NotHead) frameMost
 low-half true b = omega arith
 low-half false b = tt
 

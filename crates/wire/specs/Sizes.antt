@@ -5,6 +5,10 @@ use Prim.Native.Nat.{ℕ, _+_}
 abbrev pub dataMost : ℕ
 dataMost = 15
 
+-- "up to 270": the data of a long reply
+abbrev pub longMost : ℕ
+longMost = 270
+
 -- "Its size is 4 + n, at most 19": that of a frame, and of a reply
 abbrev pub frameMost : ℕ
 frameMost = 19
