@@ -6,8 +6,8 @@ use mathlib.Core.Bool.{Bool, true, false, cond}
 use mathlib.Core.List.{List, [], _∷_}
 use Rattle.call.specs.declared.Ending.{Ending}
 use Rattle.call.specs.declared.Answer.{Answer}
-use Rattle.call.specs.Outcome.{resultOf, Outcome, refused, Cause, inOrder, Leaves, Allows}
-use Rattle.call.specs.Reasons.{Reason, NoReason, Refuses, Ends}
+use Rattle.call.specs.Outcome.{resultOf, Outcome, refused, Cause, firstOf, inOrder, Leaves, Allows}
+use Rattle.call.specs.Reasons.{Reason, NoReason, Refuses, EndsBy}
 
 -- ---- an outcome left
 
@@ -24,18 +24,19 @@ abbrev pub None : List Cause → Type 0
 None [] = Unit {0}
 None (c ∷ causes) = (c .applies ≡ false) × None causes
 
-pub none-left : (causes : List Cause) (s o : List ℕ) (z : Outcome) → None causes → inOrder causes s o z ≡ z
-none-left [] s o z n = refl
-none-left (c ∷ causes) s o z n = rw (n .0) (none-left causes s o z (n .1))
+module _ (Z : Type 0) (refuse : Ending → Z) (z : Z) where
+  pub none-left : (causes : List Cause) → None causes → firstOf causes refuse z ≡ z
+  none-left [] n = refl
+  none-left (c ∷ causes) n = rw (n .0) (none-left causes (n .1))
 
--- what holds of every refusal, and of what is left when no cause applies, holds of the outcome
-pub in-order : (P : Outcome → Type 0) (causes : List Cause) (s o : List ℕ) (z : Outcome) → ((why : Ending) → P (refused why s o)) → (None causes → P z) → P (inOrder causes s o z)
-in-order P [] s o z refuses next = next tt
-in-order P (c ∷ causes) s o z refuses next = pick (c .applies) refl (λ more. in-order P causes s o z refuses more)
-  where
-    pick : (t : Bool) → c .applies ≡ t → ((None causes → P z) → P (inOrder causes s o z)) → P (cond t (refused (c .why) s o) (inOrder causes s o z))
-    pick true e rest = refuses (c .why)
-    pick false e rest = rest (λ n. next (e, n))
+  -- what holds of every refusal, and of what is left when no cause applies, holds of what is left
+  pub in-order : (P : Z → Type 0) (causes : List Cause) → ((why : Ending) → P (refuse why)) → (None causes → P z) → P (firstOf causes refuse z)
+  in-order P [] refuses next = next tt
+  in-order P (c ∷ causes) refuses next = pick (c .applies) refl (λ more. in-order P causes refuses more)
+    where
+      pick : (t : Bool) → c .applies ≡ t → ((None causes → P z) → P (firstOf causes refuse z)) → P (cond t (refuse (c .why)) (firstOf causes refuse z))
+      pick true e rest = refuses (c .why)
+      pick false e rest = rest (λ n. next (e, n))
 
 -- the same causes, as far as they are looked at
 abbrev pub SameCauses : List Cause → List Cause → Type 0
@@ -97,31 +98,33 @@ none-wrong [] (r ∷ reasons) d n = absurd d
 none-wrong (c ∷ causes) [] d n = absurd d
 none-wrong (c ∷ causes) (r ∷ reasons) d n = (d .0 .no (n .0), none-wrong causes reasons (d .1) (n .1))
 
-module _ (s o : List ℕ) (z : Outcome) where
-  refuses : (causes : List Cause) (reasons : List Reason) → DecidesAll causes reasons → Refuses reasons s o (inOrder causes s o z)
+module _ (Z : Type 0) (refuse : Ending → Z) (z : Z) where
+  refuses : (causes : List Cause) (reasons : List Reason) → DecidesAll causes reasons → Refuses reasons refuse (firstOf causes refuse z)
   refuses [] [] d = tt
   refuses [] (r ∷ reasons) d = absurd d
   refuses (c ∷ causes) [] d = absurd d
   refuses (c ∷ causes) (r ∷ reasons) d = (
-    (λ w. rw (applies c r (d .0) w) (ap (λ (why : Ending). refused why s o) (d .0 .same))),
+    (λ w. rw (applies c r (d .0) w) (ap refuse (d .0 .same))),
     λ n. rw (spared c r (d .0) n) (refuses causes reasons (d .1)),
   )
 
-  ended-none : (causes : List Cause) (reasons : List Reason) → DecidesAll causes reasons → inOrder causes s o z .answer .result ≡ 0 → None causes
-  ended-none [] [] d e = tt
-  ended-none [] (r ∷ reasons) d e = absurd d
-  ended-none (c ∷ causes) [] d e = absurd d
-  ended-none (c ∷ causes) (r ∷ reasons) d e = by (c .applies) refl (λ f. ended-none causes reasons (d .1) f)
-    where
-      by : (t : Bool) → c .applies ≡ t → (inOrder causes s o z .answer .result ≡ 0 → None causes) → (c .applies ≡ false) × None causes
-      by true t rest = absurd (d .0 .number (ap resultOf (sym (d .0 .same)) ∙ rw t at e))
-      by false t rest = (t, rest (rw t at e))
+  -- a refusal has the number of its ending
+  module _ (result : Z → ℕ) (numbered : (why : Ending) → result (refuse why) ≡ resultOf why) where
+    ended-none : (causes : List Cause) (reasons : List Reason) → DecidesAll causes reasons → result (firstOf causes refuse z) ≡ 0 → None causes
+    ended-none [] [] d e = tt
+    ended-none [] (r ∷ reasons) d e = absurd d
+    ended-none (c ∷ causes) [] d e = absurd d
+    ended-none (c ∷ causes) (r ∷ reasons) d e = by (c .applies) refl (λ f. ended-none causes reasons (d .1) f)
+      where
+        by : (t : Bool) → c .applies ≡ t → (result (firstOf causes refuse z) ≡ 0 → None causes) → (c .applies ≡ false) × None causes
+        by true t rest = absurd (d .0 .number (ap resultOf (sym (d .0 .same)) ∙ sym (numbered (c .why)) ∙ rw t at e))
+        by false t rest = (t, rest (rw t at e))
 
-  pub ends : (causes : List Cause) (reasons : List Reason) → DecidesAll causes reasons → z .answer .result ≡ 0 → Ends reasons s o (inOrder causes s o z)
-  ends causes reasons d e = record {
-    refuses = refuses causes reasons d;
-    done-exactly = (
-      (λ f. none-wrong causes reasons d (ended-none causes reasons d f)),
-      λ n. ap (λ (x : Outcome). x .answer .result) (none-left causes s o z (no-reason causes reasons d n)) ∙ e,
-    );
-  }
+    pub ends : (causes : List Cause) (reasons : List Reason) → DecidesAll causes reasons → result z ≡ 0 → EndsBy reasons refuse result (firstOf causes refuse z)
+    ends causes reasons d e = record {
+      refuses = refuses causes reasons d;
+      done-exactly = (
+        (λ f. none-wrong causes reasons d (ended-none causes reasons d f)),
+        λ n. ap result (none-left Z refuse z causes (no-reason causes reasons d n)) ∙ e,
+      );
+    }

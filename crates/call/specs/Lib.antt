@@ -1,3 +1,4 @@
 pub mod Outcome
 pub mod Reasons
 pub mod Calls
+pub mod Read

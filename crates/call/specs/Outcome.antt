@@ -56,10 +56,13 @@ abbrev pub bad : Form → Bool
 bad Good = false
 bad Bad = true
 
--- "In this order": the first cause that applies decides; if none does, z is left
+-- "In this order": the first cause that applies decides; if none does, z is left. A call may leave any kind of thing.
+abbrev pub firstOf : {Z : Type 0} → List Cause → (Ending → Z) → Z → Z
+firstOf [] refuse z = z
+firstOf (c ∷ causes) refuse z = cond (c .applies) (refuse (c .why)) (firstOf causes refuse z)
+
 abbrev pub inOrder : List Cause → List ℕ → List ℕ → Outcome → Outcome
-inOrder [] s o z = z
-inOrder (c ∷ causes) s o z = cond (c .applies) (refused (c .why) s o) (inOrder causes s o z)
+inOrder causes s o z = firstOf causes (λ why. refused why s o) z
 
 -- ---- "the contract determines results, record and output buffer completely, refusals included": the call left exactly its outcome
 

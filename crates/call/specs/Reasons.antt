@@ -19,12 +19,16 @@ abbrev pub NoReason : List Reason → Type 0
 NoReason [] = Unit {0}
 NoReason (r ∷ reasons) = (¬ (r .wrong)) × NoReason reasons
 
--- each is refused by its number, with zero counts and record and output as they were, if nothing before it is wrong
-abbrev pub Refuses : List Reason → List ℕ → List ℕ → Outcome → Type 0
-Refuses [] s o z = Unit {0}
-Refuses (r ∷ reasons) s o z = (r .wrong → z ≡ refused (r .why) s o) × (¬ (r .wrong) → Refuses reasons s o z)
+-- each is refused, if nothing before it is wrong
+abbrev pub Refuses : {Z : Type 0} → List Reason → (Ending → Z) → Z → Type 0
+Refuses [] refuse z = Unit {0}
+Refuses (r ∷ reasons) refuse z = (r .wrong → z ≡ refuse (r .why)) × (¬ (r .wrong) → Refuses reasons refuse z)
 
 -- and the result is 0 exactly when nothing is wrong
-pub record Ends (reasons : List Reason) (s o : List ℕ) (z : Outcome) : Type 0 where
-  pub refuses : Refuses reasons s o z
-  pub done-exactly : (z .answer .result ≡ 0) ↔ NoReason reasons
+pub record EndsBy {Z : Type 0} (reasons : List Reason) (refuse : Ending → Z) (result : Z → ℕ) (z : Z) : Type 0 where
+  pub refuses : Refuses reasons refuse z
+  pub done-exactly : (result z ≡ 0) ↔ NoReason reasons
+
+-- a call over a record is refused by its number, with zero counts and record and output as they were
+abbrev pub Ends : List Reason → List ℕ → List ℕ → Outcome → Type 0
+Ends reasons s o z = EndsBy reasons (λ why. refused why s o) (λ (x : Outcome). x .answer .result) z

@@ -1,6 +1,7 @@
 // How a call ends, and what it returns.
 ghost use mathlib.Core.Path.{_≡_};
-ghost use Rattle.call.specs.Outcome.{noCounts};
+ghost use Rattle.call.specs.Outcome.{resultOf, noCounts};
+ghost use Rattle.call.specs.Read.{noEntries};
 
 pub enum Ending {
     Done,
@@ -10,7 +11,7 @@ pub enum Ending {
     NotFinite,
 }
 
-// What a call returns to C: a result, bytes written, bytes skipped.
+// What a call over a record returns to C: a result, bytes written, bytes skipped.
 #[repr(C)]
 pub struct Answer {
     pub result: u32,
@@ -18,20 +19,46 @@ pub struct Answer {
     pub skipped: u32,
 }
 
-// An ending with zero counts.
-pub fn ended(why: Ending) -> Answer
-    ensures { λ a. ⌜ a ≡ noCounts why ⌝ }
+// What the reader returns to C: a result, entries written, bytes skipped, bytes unread.
+#[repr(C)]
+pub struct ReadAnswer {
+    pub result: u32,
+    pub entries: u32,
+    pub skipped: u32,
+    pub unread: u32,
+}
+
+fn result_of(why: Ending) -> u32
+    ensures { λ n. ⌜ n ≡ resultOf why ⌝ }
 {
-    let result = match why {
+    match why {
         Ending::Done => 0,
         Ending::BadRecord => 1,
         Ending::BadLength => 2,
         Ending::NoRoom => 3,
         Ending::NotFinite => 4,
-    };
+    }
+}
+
+// An ending with zero counts.
+pub fn ended(why: Ending) -> Answer
+    ensures { λ a. ⌜ a ≡ noCounts why ⌝ }
+{
     Answer {
-        result,
+        result: result_of(why),
         written: 0,
         skipped: 0,
+    }
+}
+
+// The reader's.
+pub fn read_ended(why: Ending) -> ReadAnswer
+    ensures { λ a. ⌜ a ≡ noEntries why ⌝ }
+{
+    ReadAnswer {
+        result: result_of(why),
+        entries: 0,
+        skipped: 0,
+        unread: 0,
     }
 }

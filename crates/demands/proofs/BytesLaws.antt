@@ -22,7 +22,7 @@ use Rattle.command.specs.Hunt.{huntFrom, huntOf, recordAfter, roomFor}
 use Rattle.command.proofs.Kept.{hunt-in}
 use Rattle.command.proofs.Room.{room-enough}
 use Rattle.call.specs.declared.Ending.the-variants.{BadLength, NoRoom}
-use Rattle.call.specs.Outcome.{Outcome, cause, done}
+use Rattle.call.specs.Outcome.{Outcome, refused, cause, done}
 use Rattle.call.specs.Reasons.{NoReason}
 use Rattle.call.proofs.InOrder.{None, SameCauses, none-left}
 use Rattle.call.specs.Calls.{bytesCauses, afterBytes, bytesCall}
@@ -79,7 +79,7 @@ module _ (s t input o : List ℕ) (bs : Bytes s) (bt : Bytes t) (same : SameButC
       → Alike (afterBytes (huntOf (recordOf s) input) o) (afterBytes (huntOf (recordOf t) input) o)
   bytes-alike n h =
       served-alike (recordOf s) (recordOf t) input o (agrees (formed s (n .0)))
-      (h (ap (λ (z : Outcome). z .answer .result) (bytes-by s input o ∙ none-left (bytesCauses s input o) s o (afterBytes (huntOf (recordOf s) input) o) n)))
+      (h (ap (λ (z : Outcome). z .answer .result) (bytes-by s input o ∙ none-left Outcome (λ why. refused why s o) (afterBytes (huntOf (recordOf s) input) o) (bytesCauses s input o) n)))
 
 pub bytes-laws : Laws bytesEntry
 bytes-laws = record {

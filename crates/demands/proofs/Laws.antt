@@ -13,7 +13,8 @@ use Rattle.record.specs.Form.{InRange}
 use Rattle.record.proofs.Lens.{long, get-tries}
 use Rattle.record.proofs.RoundTrip.{well-formed}
 use Rattle.record.proofs.Whole.{bytes-bytes}
-use Rattle.call.specs.Outcome.{Outcome, done, Cause, inOrder}
+use Rattle.call.specs.declared.Ending.{Ending}
+use Rattle.call.specs.Outcome.{Outcome, refused, done, Cause, inOrder}
 use Rattle.call.specs.Reasons.{NoReason, Ends}
 use Rattle.call.proofs.InOrder.{None, SameCauses, DecidesAll, in-order, in-order-both, ends, none-left, no-reason}
 use Rattle.demands.specs.Premise.{SameButCode, Alike}
@@ -55,15 +56,18 @@ module _ (c : Call) (w : Laws c) (l : c .Lent) (s : List ℕ) where
   abbrev finished : Outcome
   finished = done (w .after l s) (w .out l s) (w .skips l s) o
 
+  abbrev refuse : Ending → Outcome
+  refuse why = refused why s o
+
   pub ends-by : Ends (c .reasons l s) s o (c .outcome l s)
-  ends-by = rw (w .chain l s) (ends s o finished (w .causes l s) (c .reasons l s) (w .decides l s) refl)
+  ends-by = rw (w .chain l s) (ends Outcome refuse finished (λ (x : Outcome). x .answer .result) (λ why. refl) (w .causes l s) (c .reasons l s) (w .decides l s) refl)
 
   none : NoReason (c .reasons l s) → None (w .causes l s)
   none n = no-reason (w .causes l s) (c .reasons l s) (w .decides l s) n
 
   -- what is left when nothing is wrong
   pub left-by : NoReason (c .reasons l s) → c .outcome l s ≡ finished
-  left-by n = w .chain l s ∙ none-left (w .causes l s) s o finished (none n)
+  left-by n = w .chain l s ∙ none-left Outcome refuse finished (w .causes l s) (none n)
 
   -- the record of a call that is done, and the lengths of any
   well-by : Bytes s → c .OfBytes l → NoReason (c .reasons l s) → ¬ Malformed (c .outcome l s .kept)
@@ -75,14 +79,14 @@ module _ (c : Call) (w : Laws c) (l : c .Lent) (s : List ℕ) where
   lengths-by : Bytes s → c .OfBytes l → Lengths (c .outcome l s)
   lengths-by b g =
       rw (w .chain l s)
-      (in-order Lengths (w .causes l s) s o finished (λ why. (refl, refl))
+      (in-order Outcome refuse finished Lengths (w .causes l s) (λ why. (refl, refl))
       (λ n. (long (w .after l s) ∙ sym (w .size l s n), length-put o 0 (w .out l s) (omega (arith, w .room l s b g n)))))
 
   pub unharmed-by : Bytes s → c .OfBytes l → Unharmed s o (c .outcome l s)
   unharmed-by b g = record { record-length = lengths-by b g .0; output-length = lengths-by b g .1; well-formed = λ e. well-by b g (ends-by .done-exactly .0 e) }
 
   pub bytes-by : Bytes s → c .OfBytes l → Bytes (c .outcome l s .kept)
-  bytes-by b g = rw (w .chain l s) (in-order (λ z. Bytes (z .kept)) (w .causes l s) s o finished (λ why. b) (λ n. bytes-bytes (w .after l s) (w .keeps l s b g n)))
+  bytes-by b g = rw (w .chain l s) (in-order Outcome refuse finished (λ z. Bytes (z .kept)) (w .causes l s) (λ why. b) (λ n. bytes-bytes (w .after l s) (w .keeps l s b g n)))
 
   pub alike-by : (t : List ℕ) → Bytes s → Bytes t → SameButCode s t → c .Quiet l s t → Alike (c .outcome l s) (c .outcome l t)
   alike-by t bs bt same h =
@@ -100,4 +104,4 @@ module _ (c : Call) (w : Laws c) (l : c .Lent) (s : List ℕ) where
     pub used-by : 3 ≤ getD (c .outcome l s .kept) atTries 0
     used-by =
         rw (w .chain l s)
-        (in-order (λ z. 3 ≤ getD (z .kept) atTries 0) (w .causes l s) s o finished (λ why. used) (λ n. rw (get-tries (w .after l s)) (w .tries keeps-tries l s three)))
+        (in-order Outcome refuse finished (λ z. 3 ≤ getD (z .kept) atTries 0) (w .causes l s) (λ why. used) (λ n. rw (get-tries (w .after l s)) (w .tries keeps-tries l s three)))
