@@ -2,4 +2,5 @@ pub mod InOrder
 pub mod Unfolded
 pub mod Ends
 pub mod SampleEnds
+pub mod ReadEnds
 pub mod Empty

@@ -9,6 +9,7 @@ pub mod PlacedLaws
 pub mod RunLaws
 pub mod AlongLaws
 pub mod PutLaws
+pub mod EntryLaws
 pub mod ReplyLaws
 pub mod HuntRows
 pub mod ScanLaws
