@@ -1,11 +1,14 @@
-// The four calls of the board, as C has them.
+// The calls as C has them: four of the board, and the reader.
 ghost use mathlib.Core.List.{[]};
 ghost use Rattle.call.specs.Outcome.{Leaves};
 ghost use Rattle.call.specs.Calls.{factoryCall, powerOnCall, bytesCall, samplesCall};
+ghost use Rattle.call.specs.Read.{readCall, ReadLeaves};
 use birth::factory::answer_factory;
 use birth::power_on::answer_power_on;
 use call::Answer;
+use call::ReadAnswer;
 use measure::answer_samples;
+use reader::answer_read;
 use receive::answer_bytes;
 
 // A new record over any bytes of the right length.
@@ -38,4 +41,12 @@ pub extern "C" fn board_samples(rec: &mut [u8], sample: &[u8], out: &mut [u8]) -
     ensures { λ a. ⌜ Leaves (samplesCall (now (rec .entry)) (now (sample .entry)) (now (out .entry))) a (now (rec .exit)) (now (out .exit)) ⌝ }
 {
     answer_samples(rec, sample, out)
+}
+
+// A capture of what boards said in, an entry for each reply and measuring frame out.
+#[no_mangle]
+pub extern "C" fn board_read(capture: &[u8], list: &mut [u32]) -> ReadAnswer
+    ensures { λ a. ⌜ ReadLeaves (readCall (now (capture .entry)) (now (list .entry))) a (now (list .exit)) ⌝ }
+{
+    answer_read(capture, list)
 }
