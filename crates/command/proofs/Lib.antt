@@ -9,4 +9,5 @@ pub mod Keep
 pub mod Admitted
 pub mod Shared
 pub mod Kept
+pub mod Plain
 pub mod Room

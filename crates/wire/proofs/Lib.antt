@@ -11,6 +11,7 @@ pub mod AlongLaws
 pub mod PutLaws
 pub mod EntryLaws
 pub mod ReplyLaws
+pub mod SpokenLaws
 pub mod HuntRows
 pub mod ScanLaws
 pub mod ZeroLaws
