@@ -482,20 +482,22 @@ static uint8_t stream_byte(const struct stream *stream, size_t at) {
     return at < stream->pending_len ? stream->pending[at] : stream->input[at - stream->pending_len];
 }
 
-/* Answers the stream's length if no prefix is left. */
+/* Answers the length if no prefix is left. */
+static size_t find_prefix(const uint8_t *bytes, size_t at, size_t len) {
+    /* Frames often stand back to back, and then a library search would cost more than it saves. */
+    if (at == len || bytes[at] == PREFIX)
+        return at;
+    const uint8_t *found = memchr(bytes + at, PREFIX, len - at);
+    return found == NULL ? len : (size_t)(found - bytes);
+}
+
 static size_t stream_find_prefix(const struct stream *stream, size_t at) {
     for (; at < stream->pending_len; at++) {
         if (stream->pending[at] == PREFIX)
             return at;
     }
-    if (at == stream->len)
-        return at;
-    const uint8_t *from = stream->input + (at - stream->pending_len);
-    /* Frames often stand back to back, and then a library search would cost more than it saves. */
-    if (*from == PREFIX)
-        return at;
-    const uint8_t *found = memchr(from, PREFIX, stream->len - at);
-    return found == NULL ? stream->len : at + (size_t)(found - from);
+    const size_t before = stream->pending_len;
+    return before + find_prefix(stream->input, at - before, stream->len - before);
 }
 
 /* Copies only where the parameters begin among the pending bytes and so may not lie in one piece. */
@@ -585,10 +587,9 @@ static void put_entry(uint32_t *entry, const uint8_t *capture, size_t at, size_t
 }
 
 static struct second_reading read_frames(const uint8_t *capture, size_t len, uint32_t *list) {
-    const struct stream stream = {NULL, 0, capture, len};
     size_t at = 0, entries = 0, passed = 0;
     for (;;) {
-        const size_t found = stream_find_prefix(&stream, at);
+        const size_t found = find_prefix(capture, at, len);
         passed += found - at;
         at = found;
         if (at == len)
