@@ -90,7 +90,8 @@ static void show_current(void) { show_case(current); }
 
 static void crashed(int number) {
     printf("signal %d\n", number);
-    both_show();
+    if (both_show != NULL)
+        both_show();
     printf("%lu passed, %lu failed\n", tally.passed, tally.failed + 1);
     fflush(stdout);
     _Exit(1);

@@ -10,6 +10,9 @@
 
 enum { NUMBERS = BOARD_ENTRY_NUMBERS, NUMBER_SIZE = sizeof(uint32_t), GUARD_NUMBERS = GUARD / NUMBER_SIZE };
 
+/* One byte less than the longest reply. */
+enum { UNREAD_MOST = 273 };
+
 /* A program's own copy of what is lent, each buffer between guards. */
 struct lent {
     uint8_t guard, list_guard;
@@ -78,6 +81,12 @@ static bool is_there(const uint32_t *entry, const struct captured *given, size_t
            frame[3 + count] == 0x85;
 }
 
+/* Whether so many bytes at the end may wait, as far as their number and the first tell. */
+static bool may_wait(size_t unread, const struct captured *given) {
+    return unread == 0 || (unread <= UNREAD_MOST && unread <= given->capture_len &&
+                           given->capture[given->capture_len - unread] == 0xAA);
+}
+
 /* Without looking for frames: those told of are there, one behind the other, and all bytes are counted. */
 static bool adds_up(const struct lent *lent, const struct captured *given) {
     const struct board_reading *answer = &lent->answer;
@@ -91,7 +100,8 @@ static bool adds_up(const struct lent *lent, const struct captured *given) {
         behind = (size_t)entry[BOARD_ENTRY_PLACE] + entry[BOARD_ENTRY_COUNT] + 1;
         counted += entry[BOARD_ENTRY_COUNT] + 4;
     }
-    return counted == given->capture_len && behind + answer->unread <= given->capture_len;
+    return counted == given->capture_len && behind + answer->unread <= given->capture_len &&
+           may_wait(answer->unread, given);
 }
 
 static bool is_good(const struct lent *lent, const struct captured *given) {

@@ -51,7 +51,7 @@ static void every_length_of(unsigned head, unsigned third, size_t size) {
         both_capture(bytes, len);
 }
 
-/* The third byte decides how long the last three heads wait. */
+/* For the last three heads the third byte decides how long they wait, or that they do not. */
 static void every_length(void) {
     for (unsigned head = 0x50; head <= 0x6F; head++)
         every_length_of(head, 0x00, size_of(head, 0x00));
@@ -102,6 +102,8 @@ static const struct filling noise = {1, (const uint8_t[]){0x00}};
 static const struct filling alike = {1, (const uint8_t[]){0xAA}};
 static const struct filling replies = {4, (const uint8_t[]){0xAA, 0x50, 0x00, 0x85}};
 static const struct filling torn = {4, (const uint8_t[]){0xAA, 0x5F, 0xFF, 0x00}};
+static const struct filling measuring = {
+    BOARD_FRAME_SIZE, (const uint8_t[BOARD_FRAME_SIZE]){0xAA, 0x15, 0xB0, [BOARD_FRAME_SIZE - 1] = 0x85}};
 
 static const uint8_t *filled(size_t len, const struct filling *filling) {
     static uint8_t bytes[CAPTURE_ROOM];
@@ -158,6 +160,8 @@ static void every_most(void) {
     count_most(&replies, 1024, 0, 0);
     /* The first head that lacks bytes is that at 3,824: 274 from there end at 4,098. */
     count_most(&torn, 0, 3824, 272);
+    /* 146 times 28 are 4,088. */
+    count_most(&measuring, 146, 0, 8);
 }
 
 /* What a program wrote, and what has to be read from it. */
@@ -249,13 +253,11 @@ static size_t put_noise(struct draw *draw, uint8_t *to) {
     return len;
 }
 
+/* Mostly not so long, but of every size. */
 static size_t put_good(struct draw *draw, uint8_t *to) {
-    const bool measuring = draw_below(draw, 4) == 0;
-    const unsigned third = measuring                  ? 0xB0
-                           : draw_below(draw, 4) == 0 ? draw_byte(draw)
-                                                      : draw_below(draw, 8);
-    const unsigned head = measuring ? 0x15 : 0x50 + draw_below(draw, 32);
-    const size_t size = measuring ? BOARD_FRAME_SIZE : size_of(head, third);
+    const unsigned head = draw_below(draw, 4) == 0 ? 0x15 : 0x50 + draw_below(draw, 32);
+    const unsigned third = head == 0x15 ? 0xB0 : draw_below(draw, draw_below(draw, 4) == 0 ? BYTE_VALUES : 8);
+    const size_t size = head == 0x15 ? BOARD_FRAME_SIZE : size_of(head, third);
     put_sent(to, head, third, size, 0x00);
     for (size_t i = 3; i < size - 1; i++)
         to[i] = draw_telling(draw);
