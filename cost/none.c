@@ -29,3 +29,11 @@ struct none_answer none_samples(uint8_t *record, size_t record_len, const uint8_
                                 uint8_t *output, size_t output_len) {
     return none_bytes(record, record_len, sample, sample_len, output, output_len);
 }
+
+struct none_reading none_read(const uint8_t *capture, size_t capture_len, uint32_t *list, size_t list_len) {
+    (void)capture;
+    (void)capture_len;
+    (void)list;
+    (void)list_len;
+    return (struct none_reading){0, 0, 0, 0};
+}

@@ -16,4 +16,10 @@ struct none_answer none_bytes(uint8_t *record, size_t record_len, const uint8_t 
 struct none_answer none_samples(uint8_t *record, size_t record_len, const uint8_t *sample, size_t sample_len,
                                 uint8_t *output, size_t output_len);
 
+struct none_reading {
+    uint32_t result, entries, skipped, unread;
+};
+
+struct none_reading none_read(const uint8_t *capture, size_t capture_len, uint32_t *list, size_t list_len);
+
 #endif

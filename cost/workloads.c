@@ -16,11 +16,24 @@
 #include <string.h>
 #include <ucontext.h>
 
-DEFINE_RUN(none)
+DEFINE_CALLS(none)
+
+static const struct program none = {"none", run_none, read_none};
 
 /* What the call is given; each call starts from the same record. */
 static uint8_t start[RECORD_SIZE], record[RECORD_SIZE], input[BOARD_INPUT_MOST], output[BOARD_ROOM_MOST];
 static struct request request = {CALL_BYTES, record, RECORD_SIZE, input, 0, output, sizeof output};
+
+/* The reader is given the same input, as a capture. */
+static bool reads;
+static uint32_t entries[BOARD_ENTRY_NUMBERS * BOARD_ENTRIES(sizeof input)];
+
+static void make_call(const struct program *program) {
+    if (reads)
+        program->read(input, request.input_len, entries, sizeof entries / sizeof *entries);
+    else
+        program->run(&request);
+}
 
 /* Fills the input with the bytes over and over. */
 static void repeat(const uint8_t *bytes, size_t len, size_t size) {
@@ -128,6 +141,43 @@ static void reading_refused(size_t size) {
     input[BOARD_SAMPLE_SIZE - FLOAT_SIZE + 1] = 0xC0;
 }
 
+/* What a session answers, and a reply of 64 bytes. */
+static void read_replies(size_t size) {
+    static const struct {
+        uint8_t head, status, count;
+    } replies[] = {{0x50, 0x00, 0}, {0x62, 0x00, 2},  {0x60, 0x54, 0},  {0x61, 0x00, 1},    {0x54, 0x00, 4},
+                   {0x59, 0x00, 9}, {0x6B, 0x00, 11}, {0x6F, 0x00, 15}, {0x5F, 64 - 15, 64}};
+    uint8_t bytes[256] = {0};
+    size_t len = 0;
+    for (size_t i = 0; i < sizeof replies / sizeof *replies; i++) {
+        bytes[len] = 0xAA;
+        bytes[len + 1] = replies[i].head;
+        bytes[len + 2] = replies[i].status;
+        bytes[len + 3 + replies[i].count] = 0x85;
+        len += 4u + replies[i].count;
+    }
+    repeat(bytes, len, size);
+    reads = true;
+}
+
+static void read_noise(size_t size) {
+    noise(size);
+    reads = true;
+}
+
+/* The head of a long reply of 189 bytes at every second byte, and never an 85; the last one waits. */
+static void read_torn(size_t size) {
+    static const uint8_t bytes[] = {0xAA, 0x5F};
+    repeat(bytes, sizeof bytes, size);
+    reads = true;
+}
+
+static void read_measuring(size_t size) {
+    static const uint8_t bytes[BOARD_FRAME_SIZE] = {0xAA, 0x15, 0xB0, [BOARD_FRAME_SIZE - 1] = 0x85};
+    repeat(bytes, sizeof bytes, size);
+    reads = true;
+}
+
 static const struct workload {
     const char *name;
     void (*prepare)(size_t size);
@@ -143,6 +193,10 @@ static const struct workload {
     {"short-frame", short_frame, false},
     {"reading-sent", reading_sent, false},
     {"reading-refused", reading_refused, false},
+    {"read-replies", read_replies, true},
+    {"read-noise", read_noise, true},
+    {"read-torn", read_torn, true},
+    {"read-measuring", read_measuring, true},
 };
 
 enum { WORKLOADS = sizeof workloads / sizeof *workloads };
@@ -150,6 +204,7 @@ enum { WORKLOADS = sizeof workloads / sizeof *workloads };
 static void prepare(const struct workload *workload, size_t size) {
     memcpy(start, factory_record, RECORD_SIZE);
     request.call = CALL_BYTES;
+    reads = false;
     workload->prepare(size);
 }
 
@@ -159,13 +214,15 @@ static int list(void) {
     return 0;
 }
 
-static int count(const char *program, const char *name, size_t size, unsigned long times) {
+static const struct program *program_named(const char *name) {
+    size_t i = 0;
+    while (i < PROGRAMS && strcmp(programs[i].name, name) != 0)
+        i++;
+    return i < PROGRAMS ? &programs[i] : &none;
+}
+
+static int count(const struct program *program, const char *name, size_t size, unsigned long times) {
     size_t at = 0;
-    struct board_answer (*run)(const struct request *) = run_none;
-    for (size_t i = 0; i < PROGRAMS; i++) {
-        if (strcmp(programs[i].name, program) == 0)
-            run = programs[i].run;
-    }
     while (at < WORKLOADS && strcmp(workloads[at].name, name) != 0)
         at++;
     if (at == WORKLOADS || size > sizeof input)
@@ -173,30 +230,30 @@ static int count(const char *program, const char *name, size_t size, unsigned lo
     prepare(&workloads[at], size);
     for (unsigned long i = 0; i < times; i++) {
         memcpy(record, start, RECORD_SIZE);
-        run(&request);
+        make_call(program);
     }
     return 0;
 }
 
 enum { STACK = 65536, PAINT = 0xB7 };
 
-static struct board_answer (*painted_run)(const struct request *);
+static const struct program *painted;
 
-static void run_painted(void) { painted_run(&request); }
+static void call_painted(void) { make_call(painted); }
 
 /* How far down one call writes on a stack of its own. */
-static size_t stack_of_run(struct board_answer (*run)(const struct request *)) {
+static size_t stack_of_call(const struct program *program) {
     static uint8_t stack[STACK];
     static ucontext_t here, there;
     size_t untouched = 0;
     memset(stack, PAINT, sizeof stack);
     memcpy(record, start, RECORD_SIZE);
-    painted_run = run;
+    painted = program;
     getcontext(&there);
     there.uc_stack.ss_sp = stack;
     there.uc_stack.ss_size = sizeof stack;
     there.uc_link = &here;
-    makecontext(&there, run_painted, 0);
+    makecontext(&there, call_painted, 0);
     swapcontext(&here, &there);
     while (untouched < sizeof stack && stack[untouched] == PAINT)
         untouched++;
@@ -204,14 +261,16 @@ static size_t stack_of_run(struct board_answer (*run)(const struct request *)) {
     return sizeof stack - untouched / 8 * 8;
 }
 
-static size_t worst[CALLS][PROGRAMS];
+/* Of the calls over a record, and of the reader behind them. */
+static size_t worst[CALLS + 1][PROGRAMS];
 
 static void paint(void) {
-    const size_t calling = stack_of_run(run_none);
+    const size_t calling = stack_of_call(&none);
     for (size_t i = 0; i < PROGRAMS; i++) {
-        const size_t depth = stack_of_run(programs[i].run) - calling;
-        if (depth > worst[request.call][i])
-            worst[request.call][i] = depth;
+        const size_t depth = stack_of_call(&programs[i]) - calling;
+        size_t *most = &worst[reads ? CALLS : request.call][i];
+        if (depth > *most)
+            *most = depth;
     }
 }
 
@@ -241,14 +300,15 @@ static int stack(void) {
     for (size_t i = 0; i < WORKLOADS; i++) {
         prepare(&workloads[i], sizeof input);
         paint();
+        reads = false;
         for (int call = CALL_FACTORY; call <= CALL_POWER_ON; call++) {
             request.call = (enum call)call;
             paint();
         }
     }
     paint_commands();
-    for (size_t i = 0; i < CALLS; i++)
-        printf("%s %zu %zu\n", call_names[i], worst[i][PROVED], worst[i][SECOND]);
+    for (size_t i = 0; i <= CALLS; i++)
+        printf("%s %zu %zu\n", i < CALLS ? call_names[i] : "read", worst[i][PROVED], worst[i][SECOND]);
     return 0;
 }
 
@@ -258,7 +318,7 @@ int main(int argc, char **argv) {
     if (argc == 2 && strcmp(argv[1], "stack") == 0)
         return stack();
     if (argc == 6 && strcmp(argv[1], "count") == 0)
-        return count(argv[2], argv[3], strtoul(argv[4], NULL, 10), strtoul(argv[5], NULL, 10));
+        return count(program_named(argv[2]), argv[3], strtoul(argv[4], NULL, 10), strtoul(argv[5], NULL, 10));
     fprintf(stderr, "usage: workloads list | stack | count PROGRAM WORKLOAD SIZE N\n");
     return 2;
 }

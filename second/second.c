@@ -14,7 +14,9 @@ enum {
     VALUE_LEN = 4,
     PAIR_LEN = 2 * VALUE_LEN,
     SAMPLE_LEN = CHANNELS * VALUE_LEN,
-    MEASURING_LEN = SAMPLE_LEN + 4
+    MEASURING_LEN = SAMPLE_LEN + 4,
+    MEASURING_HEAD = 0x15,
+    MEASURING_STATUS = 0xB0
 };
 
 /* Where each field of the record starts, and how long the wider ones are. */
@@ -480,20 +482,22 @@ static uint8_t stream_byte(const struct stream *stream, size_t at) {
     return at < stream->pending_len ? stream->pending[at] : stream->input[at - stream->pending_len];
 }
 
-/* Answers the stream's length if no prefix is left. */
+/* Answers the length if no prefix is left. */
+static size_t find_prefix(const uint8_t *bytes, size_t at, size_t len) {
+    /* Frames often stand back to back, and then a library search would cost more than it saves. */
+    if (at == len || bytes[at] == PREFIX)
+        return at;
+    const uint8_t *found = memchr(bytes + at, PREFIX, len - at);
+    return found == NULL ? len : (size_t)(found - bytes);
+}
+
 static size_t stream_find_prefix(const struct stream *stream, size_t at) {
     for (; at < stream->pending_len; at++) {
         if (stream->pending[at] == PREFIX)
             return at;
     }
-    if (at == stream->len)
-        return at;
-    const uint8_t *from = stream->input + (at - stream->pending_len);
-    /* Frames often stand back to back, and then a library search would cost more than it saves. */
-    if (*from == PREFIX)
-        return at;
-    const uint8_t *found = memchr(from, PREFIX, stream->len - at);
-    return found == NULL ? stream->len : at + (size_t)(found - from);
+    const size_t before = stream->pending_len;
+    return before + find_prefix(stream->input, at - before, stream->len - before);
 }
 
 /* Copies only where the parameters begin among the pending bytes and so may not lie in one piece. */
@@ -544,7 +548,68 @@ static struct second_answer hunt(uint8_t *record, const struct stream *stream, u
     return done(written, skipped);
 }
 
-/* The four calls */
+/* The reader */
+
+enum { CAPTURE_MAX = 4096, ENTRY_LEN = 4, LONG_COUNT = 15, TELLING_LEN = 3 };
+
+static struct second_reading not_read(uint32_t result) { return (struct second_reading){result, 0, 0, 0}; }
+
+static bool is_reply_head(uint8_t head) { return (head & 0xF0) == 0x50 || (head & 0xF0) == 0x60; }
+
+static size_t data_count(uint8_t head) { return head & 0x0F; }
+
+static bool is_long_head(uint8_t head) { return is_reply_head(head) && data_count(head) == LONG_COUNT; }
+
+/* For the heads that alone do not tell; a measuring frame of another status begins no frame of ours. */
+static size_t size_by_third(uint8_t head, uint8_t third) {
+    if (head == MEASURING_HEAD)
+        return third == MEASURING_STATUS ? MEASURING_LEN : 0;
+    return FRAME_EXTRA + LONG_COUNT + (size_t)third;
+}
+
+/* From a prefix on; 0 if no frame begins so, and one byte more than there are if these do not tell yet. */
+static size_t sent_size(const uint8_t *bytes, size_t present) {
+    if (present == 1)
+        return 2;
+    const uint8_t head = bytes[1];
+    if (head == MEASURING_HEAD || is_long_head(head))
+        return present < TELLING_LEN ? TELLING_LEN : size_by_third(head, bytes[2]);
+    return is_reply_head(head) ? FRAME_EXTRA + data_count(head) : 0;
+}
+
+/* A long reply has spent its third byte on the length, so there is no status but 00 to tell. */
+static void put_entry(uint32_t *entry, const uint8_t *capture, size_t at, size_t behind) {
+    const uint8_t head = capture[at + 1];
+    entry[0] = head;
+    entry[1] = is_long_head(head) ? STATUS_OK : capture[at + 2];
+    entry[2] = (uint32_t)(at + 3);
+    entry[3] = (uint32_t)(behind - at - FRAME_EXTRA);
+}
+
+static struct second_reading read_frames(const uint8_t *capture, size_t len, uint32_t *list) {
+    size_t at = 0, entries = 0, passed = 0;
+    for (;;) {
+        const size_t found = find_prefix(capture, at, len);
+        passed += found - at;
+        at = found;
+        if (at == len)
+            break;
+        const size_t behind = at + sent_size(capture + at, len - at);
+        if (behind > len)
+            break;
+        if (behind > at && capture[behind - 1] == SUFFIX) {
+            put_entry(list + ENTRY_LEN * entries, capture, at, behind);
+            entries++;
+            at = behind;
+        } else {
+            at++;
+            passed++;
+        }
+    }
+    return (struct second_reading){0, (uint32_t)entries, (uint32_t)passed, (uint32_t)(len - at)};
+}
+
+/* The calls */
 
 struct second_answer second_factory(uint8_t *record, size_t record_len) {
     static const uint8_t code[CODE_LEN] = {0x55, 0x53, 0x43, 0x31};
@@ -627,9 +692,18 @@ struct second_answer second_samples(uint8_t *record, size_t record_len, const ui
     if ((record[FLAGS] & FLAG_SENDING) == 0)
         return done(0, 0);
     output[0] = PREFIX;
-    output[1] = 0x15;
-    output[2] = 0xB0;
+    output[1] = MEASURING_HEAD;
+    output[2] = MEASURING_STATUS;
     memcpy(output + 3, sample, SAMPLE_LEN);
     output[3 + SAMPLE_LEN] = SUFFIX;
     return done(MEASURING_LEN, 0);
+}
+
+struct second_reading second_read(const uint8_t *capture, size_t capture_len, uint32_t *list,
+                                  size_t list_len) {
+    if (capture_len > CAPTURE_MAX)
+        return not_read(2);
+    if (list_len / ENTRY_LEN < capture_len / FRAME_EXTRA)
+        return not_read(3);
+    return read_frames(capture, capture_len, list);
 }

@@ -1,4 +1,4 @@
-/* A radio board as four calls over a lent record of 123 bytes. */
+/* A radio board as four calls over a lent record of 123 bytes, and a reader of what a board sends. */
 #ifndef SECOND_H
 #define SECOND_H
 
@@ -10,7 +10,7 @@ extern "C" {
 #endif
 
 /*
- * The answer of every call.
+ * The answer of every call over a record.
  *
  * result   0 done
  *          1 record of a wrong length or not well formed (factory looks at the length only)
@@ -48,6 +48,32 @@ struct second_answer second_bytes(uint8_t *record, size_t record_len, const uint
  */
 struct second_answer second_samples(uint8_t *record, size_t record_len, const uint8_t *sample,
                                     size_t sample_len, uint8_t *output, size_t output_len);
+
+/*
+ * The answer of the reader.
+ *
+ * result   0 done
+ *          2 capture longer than 4096 bytes
+ *          3 list of fewer entries than the whole part of the capture's bytes / 4
+ * entries  entries put at the start of the list
+ * skipped  bytes that belong to no frame
+ * unread   bytes at the end that may yet become a frame
+ *
+ * A refusal comes with the other counts 0 and with the list as it was. Numbers of the list behind the last
+ * entry are never touched.
+ */
+struct second_reading {
+    uint32_t result, entries, skipped, unread;
+};
+
+/*
+ * Finds the replies (heads 5n and 6n) and the measuring frames (head 15, status B0) of a capture.
+ * An entry is four numbers: head, status (0 for a long reply, whose third byte belongs to its length), place
+ * of the first data byte (without data the place behind the status) and number of data bytes. The list has
+ * room for the whole part of list_len / 4 entries.
+ */
+struct second_reading second_read(const uint8_t *capture, size_t capture_len, uint32_t *list,
+                                  size_t list_len);
 
 #ifdef __cplusplus
 }

@@ -1323,6 +1323,400 @@ static void test_random_pairs(void) {
     }
 }
 
+/* The four numbers of an entry, in their order. */
+struct entry {
+    uint32_t head, status, place, count;
+};
+
+enum { LIST_ROOM = 4096 };
+
+static uint32_t last_list[LIST_ROOM];
+
+/* Reads from and into exact blocks and checks everything that holds for every reading. */
+static struct second_reading read_into(const uint8_t *given, size_t len, size_t list_len) {
+    uint8_t *capture = block(given, len);
+    uint32_t *list = (uint32_t *)(void *)block(NULL, list_len * sizeof *list);
+    const struct second_reading reading = second_read(capture, len, list, list_len);
+    CHECK(reading.result == 0 || reading.result == 2 || reading.result == 3);
+    CHECK(len == 0 || memcmp(capture, given, len) == 0);
+    if (reading.result != 0)
+        CHECK(reading.entries == 0 && reading.skipped == 0 && reading.unread == 0);
+    const size_t numbers = 4 * (size_t)reading.entries;
+    bool behind_unchanged = numbers <= list_len;
+    for (size_t i = numbers; i < list_len; i++)
+        behind_unchanged = behind_unchanged && list[i] == CANARY * 0x1010101u;
+    CHECK(behind_unchanged);
+    if (numbers <= list_len && numbers <= LIST_ROOM)
+        memcpy(last_list, list, numbers * sizeof *list);
+    free(capture);
+    free(list);
+    return reading;
+}
+
+/* A list with just the entries that are asked for. */
+static struct second_reading read_all(const uint8_t *capture, size_t len) {
+    return read_into(capture, len, 4 * (len / 4));
+}
+
+static void check_entry(size_t at, struct entry wanted, int line) {
+    const uint32_t *seen = last_list + 4 * at;
+    const bool good = seen[0] == wanted.head && seen[1] == wanted.status && seen[2] == wanted.place &&
+                      seen[3] == wanted.count;
+    check(good, line, "entry");
+    if (!good)
+        printf("  entry %zu: %02X %02X %u %u\n", at, (unsigned)seen[0], (unsigned)seen[1], (unsigned)seen[2],
+               (unsigned)seen[3]);
+}
+
+static void check_reading(struct second_reading seen, uint32_t entries, uint32_t skipped, uint32_t unread,
+                          int line) {
+    const bool good =
+        seen.result == 0 && seen.entries == entries && seen.skipped == skipped && seen.unread == unread;
+    check(good, line, "reading");
+    if (!good)
+        printf("  result %u, entries %u, skipped %u, unread %u\n", (unsigned)seen.result,
+               (unsigned)seen.entries, (unsigned)seen.skipped, (unsigned)seen.unread);
+}
+
+#define READING(seen, entries, skipped, unread) check_reading(seen, entries, skipped, unread, __LINE__)
+
+/* A capture, and what has to be read from it. */
+struct reading_row {
+    const char *capture;
+    uint32_t skipped, unread, entries;
+    struct entry list[4];
+};
+
+static void check_rows(const struct reading_row *rows, size_t count, int line) {
+    for (size_t i = 0; i < count; i++) {
+        uint8_t capture[256];
+        const size_t len = hex(rows[i].capture, capture);
+        const unsigned long before = failed;
+        check_reading(read_all(capture, len), rows[i].entries, rows[i].skipped, rows[i].unread, line);
+        for (size_t k = 0; k < rows[i].entries; k++)
+            check_entry(k, rows[i].list[k], line);
+        if (failed > before)
+            printf("  row %zu: %s\n", i, rows[i].capture);
+    }
+}
+
+#define ROWS(rows) check_rows(rows, sizeof(rows) / sizeof *(rows), __LINE__)
+
+/* Printed frames and sessions of the manufacturer, commands between the replies too. */
+static void test_read_printed(void) {
+    static const struct reading_row rows[] = {
+        {"AA 50 00 85", 0, 0, 1, {{0x50, 0, 3, 0}}},
+        {"AA 54 00 00 F8 1F AE 85", 0, 0, 1, {{0x54, 0, 3, 4}}},
+        {"AA 15 B0 B9066773 BFA0F341 BF9FFFA6 BF9FC4D9 BF9FB83F BFA07DA7 85", 0, 0, 1, {{0x15, 0xB0, 3, 24}}},
+        {"AA 6B 00 47 53 56 2D 36 42 54 5F 64 65 76 85", 0, 0, 1, {{0x6B, 0, 3, 11}}},
+        {"AA 62 00 00 14 85 AA 60 00 85", 0, 0, 2, {{0x62, 0, 3, 2}, {0x60, 0, 9, 0}}},
+        /* Errors with data, which the board does not send and the reader takes as they are. */
+        {"AA 62 54 00 00 85", 0, 0, 1, {{0x62, 0x54, 3, 2}}},
+        {"AA 62 C0 01 08 85", 0, 0, 1, {{0x62, 0xC0, 3, 2}}},
+        {"AA 62 62 00 11 85", 0, 0, 1, {{0x62, 0x62, 3, 2}}},
+        /* A full name is a long reply whose third byte adds nothing. */
+        {"AA 6F 00 6E69656C736E69656C736E69656C73 85", 0, 0, 1, {{0x6F, 0, 3, 15}}},
+        /* Two data bytes are announced where none are, so it waits, and is torn by what comes next. */
+        {"AA 62 00 85", 0, 4, 0, {{0}}},
+        {"AA 62 00 85 AA A0 ED 85", 8, 0, 0, {{0}}},
+        {"AA 62 00 85 AA 60 62 85", 4, 0, 1, {{0x60, 0x62, 7, 0}}},
+        /* Frames with a checksum, and the measuring frame of eight channels. */
+        {"AA 74 00 C8 73 00 02 B9 85 AA 70 00 A2 85", 14, 0, 0, {{0}}},
+        {"AA 37 B0 C1C7CD38 3FE6197E 3FC0B60B BF497E95 4022DD1D 3FB21153 3EE6C372 3F92653B E76E 85",
+         38,
+         0,
+         0,
+         {{0}}},
+        /* Data with an 85, then the stop command and its reply. */
+        {"AA 15 B0 BCEA283A BF866666 3E1A85C4 3F1B51A7 BD238AE0 BF866666 85 AA 90 23 85 AA 50 00 85",
+         4,
+         0,
+         2,
+         {{0x15, 0xB0, 3, 24}, {0x50, 0, 35, 0}}},
+        {"AA A0 E8 85 AA 6F 00 6E69656C736E69656C736E69656C73 85 AA A1 EE 01 85 AA 60 00 85 AA A0 ED 85"
+         "AA 61 00 01 85",
+         13,
+         0,
+         3,
+         {{0x6F, 0, 7, 15}, {0x60, 0, 31, 0}, {0x61, 0, 39, 1}}},
+    };
+    ROWS(rows);
+}
+
+/* What is no frame, what tears and what waits. */
+static void test_read_hunt(void) {
+    static const struct reading_row rows[] = {
+        {"", 0, 0, 0, {{0}}},
+        {"00", 1, 0, 0, {{0}}},
+        {"85 50 00 85", 4, 0, 0, {{0}}},
+        {"AA", 0, 1, 0, {{0}}},
+        {"00 AA", 1, 1, 0, {{0}}},
+        {"AA 15", 0, 2, 0, {{0}}},
+        {"AA 5F", 0, 2, 0, {{0}}},
+        {"AA 6F", 0, 2, 0, {{0}}},
+        {"AA 50", 0, 2, 0, {{0}}},
+        {"AA 6E", 0, 2, 0, {{0}}},
+        {"AA 50 00", 0, 3, 0, {{0}}},
+        {"AA 15 B0", 0, 3, 0, {{0}}},
+        {"AA 5F 00", 0, 3, 0, {{0}}},
+        {"AA 51 00 85", 0, 4, 0, {{0}}},
+        /* Neighbours of good heads. */
+        {"AA 4F", 2, 0, 0, {{0}}},
+        {"AA 70", 2, 0, 0, {{0}}},
+        {"AA 7F", 2, 0, 0, {{0}}},
+        {"AA 14", 2, 0, 0, {{0}}},
+        {"AA 16", 2, 0, 0, {{0}}},
+        {"AA 05", 2, 0, 0, {{0}}},
+        {"AA 25", 2, 0, 0, {{0}}},
+        {"AA 40 00 85 AA 70 00 85 AA 90 00 85 AA A0 00 85", 16, 0, 0, {{0}}},
+        /* A measuring frame is known by its third byte, before the rest is there. */
+        {"AA 15 AF", 3, 0, 0, {{0}}},
+        {"AA 15 B1", 3, 0, 0, {{0}}},
+        {"AA 15 00", 3, 0, 0, {{0}}},
+        {"AA 15 AA", 2, 1, 0, {{0}}},
+        {"AA 15 AA 50 00 85", 2, 0, 1, {{0x50, 0, 5, 0}}},
+        {"AA 15 30 AA 60 55 85", 3, 0, 1, {{0x60, 0x55, 6, 0}}},
+        {"AA 17 B0 AA 60 55 85", 3, 0, 1, {{0x60, 0x55, 6, 0}}},
+        /* AA is no head of a reply, so a second one begins anew. */
+        {"AA AA 50 00 85", 1, 0, 1, {{0x50, 0, 4, 0}}},
+        {"AA AA", 1, 1, 0, {{0}}},
+        /* Within a whole frame nothing else is looked for, within a torn one it is. */
+        {"AA 53 00 AA 50 00 85", 0, 0, 1, {{0x53, 0, 3, 3}}},
+        {"AA 54 00 AA 50 00 85 85", 0, 0, 1, {{0x54, 0, 3, 4}}},
+        {"AA 54 00 AA 50 00 85 84", 4, 0, 1, {{0x50, 0, 6, 0}}},
+        {"AA 52 00 AA 50 00 85", 3, 0, 1, {{0x50, 0, 6, 0}}},
+        {"AA 50 AA 60 40 85", 2, 0, 1, {{0x60, 0x40, 5, 0}}},
+        {"AA 50 AA 85 60 40 85", 3, 0, 1, {{0x50, 0xAA, 3, 0}}},
+        {"AA 54 00 AA 6F 85 00 00", 3, 5, 0, {{0}}},
+        {"AA 50 00 84 AA 60 00 05 AA 60 00 85", 8, 0, 1, {{0x60, 0, 11, 0}}},
+        {"AA 50 00 AA", 3, 1, 0, {{0}}},
+        /* An inner frame that begins in a torn one may reach beyond it. */
+        {"AA 51 00 AA 62 00 01 02 85", 3, 0, 1, {{0x62, 0, 6, 2}}},
+        {"AA 55 40 AA 51 00 AA 50 00 85", 6, 0, 1, {{0x50, 0, 9, 0}}},
+        /* The first of two that overlap and are both whole is read. */
+        {"AA 52 00 AA 50 85 85", 1, 0, 1, {{0x52, 0, 3, 2}}},
+        /* Nothing behind what waits is read, though it would be a frame by itself. */
+        {"AA 50 40 85 AA 5F 00 AA 50 00 85", 0, 7, 1, {{0x50, 0x40, 3, 0}}},
+        {"AA 15 B0 AA 50 00 85 AA 60 00 85", 0, 11, 0, {{0}}},
+        {"AA 6E 00 AA 60 00 85", 0, 7, 0, {{0}}},
+        /* A long reply that is torn is given up by one byte. */
+        {"AA 5F 00 AA 50 40 85 00 00 00 00 00 00 00 00 00 00 00 00", 15, 0, 1, {{0x50, 0x40, 6, 0}}},
+        {"AA 5F 00 AA 50 40 85 00 00 00 00 00 00 00 00 00 00 00 85", 0, 0, 1, {{0x5F, 0, 3, 15}}},
+        {"AA 5F 01 AA 50 40 85 00 00 00 00 00 00 00 00 00 00 00 85", 0, 19, 0, {{0}}},
+        {"AA 6F 01 AA 50 40 85 00 00 00 00 00 00 00 00 00 00 00 00 85", 0, 0, 1, {{0x6F, 0, 3, 16}}},
+        {"AA 5F AA 50 40 85", 0, 6, 0, {{0}}},
+    };
+    ROWS(rows);
+}
+
+/* A frame of a head and a third byte, so many data bytes and a last byte. */
+static size_t put_sent(uint8_t *to, unsigned head, unsigned third, size_t count, unsigned last) {
+    to[0] = 0xAA;
+    to[1] = (uint8_t)head;
+    to[2] = (uint8_t)third;
+    memset(to + 3, last == 0x85 ? 0x00 : 0x85, count);
+    to[3 + count] = (uint8_t)last;
+    return 4 + count;
+}
+
+/* One frame behind two bytes of noise: whole, one byte short, with a wrong end, and with a byte behind it. */
+static void check_sent(unsigned head, unsigned third, size_t count, unsigned status, int line) {
+    uint8_t bytes[300] = {0x00, 0x85};
+    const struct entry wanted = {head, status, 5, (uint32_t)count};
+    const size_t len = 2 + put_sent(bytes + 2, head, third, count, 0x85);
+    bytes[len] = 0xAA;
+    check_reading(read_all(bytes, len), 1, 2, 0, line);
+    check_entry(0, wanted, line);
+    check_reading(read_all(bytes, len + 1), 1, 2, 1, line);
+    check_entry(0, wanted, line);
+    check_reading(read_all(bytes, len - 1), 0, 2, (uint32_t)len - 3, line);
+    put_sent(bytes + 2, head, third, count, 0x84);
+    check_reading(read_all(bytes, len - 1), 0, 2, (uint32_t)len - 3, line);
+    check_reading(read_all(bytes, len), 0, (uint32_t)len, 0, line);
+}
+
+static void test_read_sizes(void) {
+    for (unsigned third = 0; third < 256; third++) {
+        for (unsigned count = 0; count <= 14; count++) {
+            check_sent(0x50 + count, third, count, third, __LINE__);
+            check_sent(0x60 + count, third, count, third, __LINE__);
+        }
+        check_sent(0x5F, third, third + 15, 0, __LINE__);
+        check_sent(0x6F, third, third + 15, 0, __LINE__);
+    }
+    check_sent(0x15, 0xB0, 24, 0xB0, __LINE__);
+}
+
+/* The largest counts that there can be. */
+static void test_read_most(void) {
+    static uint8_t capture[4096];
+    for (size_t at = 0; at < 4096; at += 4)
+        hex("AA 50 00 85", capture + at);
+    READING(read_all(capture, 4096), 1024, 0, 0);
+    for (uint32_t i = 0; i < 1024; i++)
+        check_entry(i, (struct entry){0x50, 0, 4 * i + 3, 0}, __LINE__);
+    READING(read_all(capture + 1, 4095), 1023, 3, 0);
+    READING(read_all(capture, 4095), 1023, 0, 3);
+    memset(capture, 0x85, sizeof capture);
+    READING(read_all(capture, 4096), 0, 4096, 0);
+    memset(capture, 0xAA, sizeof capture);
+    READING(read_all(capture, 4096), 0, 4095, 1);
+    /* The longest reply at the end, whole and one byte short of it. */
+    memset(capture, 0, sizeof capture);
+    put_sent(capture + 4096 - 274, 0x6F, 0xFF, 270, 0x85);
+    READING(read_all(capture, 4096), 1, 4096 - 274, 0);
+    check_entry(0, (struct entry){0x6F, 0, 4096 - 271, 270}, __LINE__);
+    READING(read_all(capture, 4095), 0, 4096 - 274, 273);
+    /* Heads of longest replies that all tear but those at the end. */
+    for (size_t at = 0; at < 4096; at += 2)
+        hex("AA 5F", capture + at);
+    for (size_t at = 2; at < 4096; at += 4)
+        hex("FF", capture + at);
+    READING(read_all(capture, 4096), 0, 4096 - 272, 272);
+}
+
+static void test_read_refusals(void) {
+    static uint8_t capture[70000];
+    static uint32_t list[4];
+    CHECK(read_into(capture, 4097, 0).result == 2);
+    CHECK(read_into(capture, 4097, 4095).result == 2);
+    CHECK(read_into(capture, 4097, 4096).result == 2);
+    CHECK(read_into(capture, 65536, 0).result == 2);
+    CHECK(read_into(capture, 65536 + 4, 65536 + 4).result == 2);
+    CHECK(read_into(capture, 4096, 4095).result == 3);
+    CHECK(read_into(capture, 4096, 0).result == 3);
+    CHECK(read_into(capture, 4095, 4091).result == 3);
+    READING(read_into(capture, 4096, 4096), 0, 4096, 0);
+    READING(read_into(capture, 4095, 4092), 0, 4095, 0);
+    READING(read_into(capture, 4096, 65536), 0, 4096, 0);
+    CHECK(second_read(capture, SIZE_MAX, NULL, 0).result == 2);
+    CHECK(second_read(NULL, 0, NULL, 0).result == 0);
+    CHECK(second_read(NULL, 0, list, 4).result == 0);
+    for (size_t len = 0; len <= 64; len++) {
+        for (size_t numbers = 0; numbers <= 72; numbers++) {
+            const struct second_reading reading = read_into(capture, len, numbers);
+            CHECK(reading.result == (numbers / 4 < len / 4 ? 3 : 0));
+            CHECK(reading.skipped == (reading.result == 0 ? len : 0));
+        }
+    }
+    /* Three bytes have room for no frame, so that no list is asked for. */
+    hex("AA 50 00", capture);
+    READING(second_read(capture, 3, NULL, 0), 0, 0, 3);
+    CHECK(second_read(capture, 4, NULL, 0).result == 3);
+    /* Room for the entry is asked for even where there is none. */
+    CHECK(read_into(capture, 4, 3).result == 3);
+    READING(read_into(capture, 4, 4), 0, 4, 0);
+}
+
+/* A plain reader: how long the frame is that begins here, 0 if there is none, longer than len if it waits. */
+static size_t plain_size(const uint8_t *bytes, size_t len) {
+    const size_t waits = len + 1;
+    if (bytes[0] != 0xAA)
+        return 0;
+    if (len == 1)
+        return waits;
+    size_t size;
+    const unsigned head = bytes[1];
+    if (head == 0x15 || head == 0x5F || head == 0x6F) {
+        if (len == 2)
+            return waits;
+        if (head == 0x15 && bytes[2] != 0xB0)
+            return 0;
+        size = head == 0x15 ? 28 : 19u + bytes[2];
+    } else if ((head >= 0x50 && head < 0x5F) || (head >= 0x60 && head < 0x6F)) {
+        size = 4 + head % 16;
+    } else {
+        return 0;
+    }
+    if (size > len)
+        return waits;
+    return bytes[size - 1] == 0x85 ? size : 0;
+}
+
+static void check_plain(const uint8_t *capture, size_t len) {
+    const struct second_reading reading = read_all(capture, len);
+    uint32_t entries = 0, skipped = 0;
+    size_t at = 0;
+    while (at < len) {
+        const size_t size = plain_size(capture + at, len - at);
+        if (size > len - at)
+            break;
+        if (size > 0) {
+            const uint32_t head = capture[at + 1];
+            const uint32_t status = head == 0x5F || head == 0x6F ? 0 : capture[at + 2];
+            check_entry(entries++, (struct entry){head, status, (uint32_t)at + 3, (uint32_t)size - 4},
+                        __LINE__);
+        }
+        skipped += size == 0;
+        at += size == 0 ? 1 : size;
+    }
+    READING(reading, entries, skipped, (uint32_t)(len - at));
+}
+
+/* Mostly bytes that matter to the reader, with short third bytes so that long replies end. */
+static void random_capture(uint8_t *bytes, size_t len) {
+    static const uint8_t telling[] = {0xAA, 0xAA, 0xAA, 0x50, 0x51, 0x5F, 0x60, 0x62,
+                                      0x6F, 0x15, 0xB0, 0x85, 0x85, 0x00, 0x01, 0x02};
+    for (size_t i = 0; i < len; i++)
+        bytes[i] = random_below(16) == 0 ? (uint8_t)random_below(256) : telling[random_below(sizeof telling)];
+}
+
+static void test_random_captures(void) {
+    static uint8_t capture[4096];
+    for (unsigned round = 0; round < 20000; round++) {
+        const size_t len = random_below(round % 100 == 0 ? 4097 : 400);
+        random_capture(capture, len);
+        /* Some whole frames over it, which may tear each other. */
+        for (size_t at = random_below(100); at + 300 < len; at += random_below(300)) {
+            const unsigned third = random_below(256);
+            if (random_below(3) == 0)
+                put_sent(capture + at, 0x15, 0xB0, 24, 0x85);
+            else if (random_below(2) == 0)
+                put_sent(capture + at, 0x5F, third, third + 15, random_below(8) == 0 ? 0x84 : 0x85);
+            else
+                put_sent(capture + at, 0x60 + third % 15, third, third % 15, 0x85);
+        }
+        check_plain(capture, len);
+    }
+}
+
+/* Writes one reply or measuring frame to last_output and answers the entry that has to come back. */
+static struct entry random_step(uint8_t *record) {
+    if (random_below(4) == 0) {
+        CHECK(take(record, good_sample).written == 28);
+        return (struct entry){0x15, 0xB0, 0, 24};
+    }
+    const size_t row = random_below((uint32_t)(sizeof built / sizeof *built));
+    uint8_t parameters[15];
+    for (size_t i = 0; i < built[row].most; i++)
+        parameters[i] = (uint8_t)random_below(random_below(32) == 0 ? 256 : 8);
+    const struct reply reply = send(record, built[row].part, built[row].number, parameters, built[row].most);
+    record[AT_FLAGS] |= SENDING;
+    return (struct entry){(built[row].part == BT121 ? 0x60u : 0x50u) + (uint32_t)reply.len, reply.status, 0,
+                          (uint32_t)reply.len};
+}
+
+/* What the bytes and samples calls wrote is read back as it was meant. */
+static void test_read_back(void) {
+    static uint8_t capture[4096];
+    static struct entry wanted[1024];
+    for (unsigned round = 0; round < 300; round++) {
+        FACTORY_RECORD(record);
+        size_t len = 0;
+        uint32_t entries = 0;
+        record[AT_FLAGS] |= UNLOCKED;
+        while (len + 28 <= sizeof capture) {
+            wanted[entries] = random_step(record);
+            wanted[entries].place = (uint32_t)len + 3;
+            memcpy(capture + len, last_output, 4 + wanted[entries].count);
+            len += 4 + wanted[entries++].count;
+        }
+        READING(read_all(capture, len), entries, 0, 0);
+        for (uint32_t i = 0; i < entries; i++)
+            check_entry(i, wanted[i], __LINE__);
+    }
+}
+
 int main(void) {
     test_factory();
     test_power_on();
@@ -1353,6 +1747,13 @@ int main(void) {
     test_samples();
     test_random_samples();
     test_random_pairs();
+    test_read_printed();
+    test_read_hunt();
+    test_read_sizes();
+    test_read_most();
+    test_read_refusals();
+    test_random_captures();
+    test_read_back();
     printf("%lu passed, %lu failed\n", passed, failed);
     return failed == 0 ? 0 : 1;
 }

@@ -2,6 +2,7 @@
 
 #include "frames.h"
 #include "hex.h"
+#include "lend.h"
 #include "record.h"
 #include "tally.h"
 
@@ -9,8 +10,6 @@
 #include <stdio.h>
 #include <stdlib.h>
 #include <string.h>
-
-enum { GUARD = 32, FILLING = 0xC3 };
 
 /* A program's own copy of what is lent, each buffer between guard bytes. */
 struct lent {
@@ -23,34 +22,11 @@ struct lent {
 
 static struct lent lents[PROGRAMS];
 
-enum { TURNS = 4 };
-
-/* Guards that differ, so that reading beyond a buffer shows too: bytes of frames, no number, zero. */
-static const uint8_t guards[TURNS][PROGRAMS] = {{0xAA, 0x85}, {0xFF, 0x00}, {0x85, 0xAA}, {0x00, 0xFF}};
-
-/* The case under way, for a program that crashes on it. */
 static const struct given *current;
 
+void (*both_show)(void);
+
 enum mode both_mode = MODE_USUAL;
-
-/* Without bytes the buffer gets the filling. */
-static uint8_t *lend(uint8_t *buffer, const uint8_t *bytes, size_t len, uint8_t guard) {
-    memset(buffer, guard, GUARD);
-    if (bytes == NULL)
-        memset(buffer + GUARD, FILLING, len);
-    else
-        memcpy(buffer + GUARD, bytes, len);
-    memset(buffer + GUARD + len, guard, GUARD);
-    return buffer + GUARD;
-}
-
-static bool guarded(const uint8_t *buffer, size_t len, uint8_t guard) {
-    for (size_t i = 0; i < GUARD; i++) {
-        if (buffer[i] != guard || buffer[GUARD + len + i] != guard)
-            return false;
-    }
-    return true;
-}
 
 static void run(const struct program *program, const struct given *given, struct lent *lent) {
     struct request request = {
@@ -110,9 +86,12 @@ static void show_case(const struct given *given) {
     printf(" %s\n", mode_names[both_mode]);
 }
 
+static void show_current(void) { show_case(current); }
+
 static void crashed(int number) {
     printf("signal %d\n", number);
-    show_case(current);
+    if (both_show != NULL)
+        both_show();
     printf("%lu passed, %lu failed\n", tally.passed, tally.failed + 1);
     fflush(stdout);
     _Exit(1);
@@ -139,6 +118,7 @@ struct board_answer both(const struct given *given) {
     bool good = true;
     turn = (turn + 1) % TURNS;
     current = given;
+    both_show = show_current;
     for (unsigned i = 0; i < PROGRAMS; i++) {
         lents[i].guard = guards[turn][i];
         /* Not the same, so that copying from guard to guard shows. */

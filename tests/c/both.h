@@ -24,6 +24,9 @@ struct given {
 /* From then on a program that crashes ends with its case printed. */
 void both_catch_crashes(void);
 
+/* Prints the case under way. */
+extern void (*both_show)(void);
+
 /* The float mode in which programs are run. */
 extern enum mode both_mode;
 

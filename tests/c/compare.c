@@ -1,5 +1,6 @@
 /* Gives the proved library and the second program the same calls and compares all that they leave. */
 #include "both.h"
+#include "both_read.h"
 #include "hex.h"
 #include "parts.h"
 #include "tally.h"
@@ -13,17 +14,18 @@ static const struct part {
     void (*run)(const struct settings *settings);
     unsigned long least;
 } parts[] = {
-    {"tables", run_tables, 210},      {"commands", run_commands, 1193744},
+    {"tables", run_tables, 242},      {"commands", run_commands, 1193744},
     {"limits", run_limits, 11718},    {"changes", run_changes, 1983786},
     {"hunts", run_hunts, 23562},      {"readings", run_readings, 725868},
-    {"streams", run_streams, 200000},
+    {"streams", run_streams, 200000}, {"captures", run_captures, 771438},
 };
 
 static int usage(void) {
     printf("usage: compare [--first] [--seed N] [--calls N] [--part NAME] TABLE...\n"
            "       compare --replay CALL RECORD INPUT ROOM MODE\n"
-           "RECORD and INPUT are hex, - if empty, null if a null pointer; ROOM is a number, - or null;\n"
-           "MODE is that of the floats, usual or flushed\n");
+           "       compare --replay read CAPTURE NUMBERS\n"
+           "RECORD, INPUT and CAPTURE are hex, - if empty, null if a null pointer; ROOM and NUMBERS are\n"
+           "a number, - or null; MODE is that of the floats, usual or flushed\n");
     return 2;
 }
 
@@ -43,14 +45,14 @@ static bool read_buffer(const char *word, uint8_t *bytes, size_t room, size_t *l
     return true;
 }
 
-/* The output has a length only, but may be a null pointer too. */
-static bool read_room(const char *word, size_t *room, bool *null) {
+/* Output and list have a length only, but may be a null pointer too. */
+static bool read_room(const char *word, size_t most, size_t *room, bool *null) {
     unsigned long number;
     uint8_t none;
     if (!read_number(word, &number))
         return read_buffer(word, &none, 0, room, null);
     *room = number;
-    return number <= OUTPUT_ROOM;
+    return number <= most;
 }
 
 static int replay(char **words) {
@@ -59,11 +61,24 @@ static int replay(char **words) {
     if (!call_named(words[0], &given.call) ||
         !read_buffer(words[1], record, sizeof record, &given.record_len, &given.null) ||
         !read_buffer(words[2], input, sizeof input, &given.input_len, &given.null) ||
-        !read_room(words[3], &given.room, &given.null) || !mode_named(words[4], &both_mode))
+        !read_room(words[3], OUTPUT_ROOM, &given.room, &given.null) || !mode_named(words[4], &both_mode))
         return usage();
     const struct board_answer answer = both(&given);
     printf("second program: result %u, written %u, skipped %u\n", (unsigned)answer.result,
            (unsigned)answer.written, (unsigned)answer.skipped);
+    return tally_end();
+}
+
+static int replay_read(char **words) {
+    static uint8_t capture[CAPTURE_ROOM];
+    struct captured given = {.capture = capture};
+    if (strcmp(words[0], "read") != 0 ||
+        !read_buffer(words[1], capture, sizeof capture, &given.capture_len, &given.null) ||
+        !read_room(words[2], LIST_ROOM, &given.list_len, &given.null))
+        return usage();
+    const struct board_reading answer = both_read(&given).answer;
+    printf("second program: result %u, entries %u, skipped %u, unread %u\n", (unsigned)answer.result,
+           (unsigned)answer.entries, (unsigned)answer.skipped, (unsigned)answer.unread);
     return tally_end();
 }
 
@@ -105,6 +120,8 @@ int main(int argc, char **argv) {
     both_catch_crashes();
     if (argc == 7 && strcmp(argv[1], "--replay") == 0)
         return replay(argv + 2);
+    if (argc == 5 && strcmp(argv[1], "--replay") == 0)
+        return replay_read(argv + 2);
     tally.first = argc > at && strcmp(argv[at], "--first") == 0;
     at += tally.first ? 1 : 0;
     for (; at + 1 < argc && argv[at][0] == '-'; at += 2) {

@@ -14,6 +14,10 @@ uint32_t draw_below(struct draw *draw, uint32_t limit) {
 
 uint8_t draw_byte(struct draw *draw) { return (uint8_t)draw_below(draw, 256); }
 
+uint8_t draw_one(struct draw *draw, const uint8_t *bytes, uint32_t len) {
+    return bytes[draw_below(draw, len)];
+}
+
 void draw_bytes(struct draw *draw, uint8_t *bytes, size_t len) {
     for (size_t i = 0; i < len; i++)
         bytes[i] = draw_byte(draw);

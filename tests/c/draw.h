@@ -16,6 +16,9 @@ uint32_t draw_below(struct draw *draw, uint32_t limit);
 
 uint8_t draw_byte(struct draw *draw);
 
+/* One of the bytes. */
+uint8_t draw_one(struct draw *draw, const uint8_t *bytes, uint32_t len);
+
 void draw_bytes(struct draw *draw, uint8_t *bytes, size_t len);
 
 #endif

@@ -2,8 +2,7 @@
 #ifndef FRAMES_H
 #define FRAMES_H
 
-#include <stddef.h>
-#include <stdint.h>
+#include "draw.h"
 
 enum { AMPLIFIER = 0x90, BT121 = 0xA0, PARAMETERS_MOST = 15, FRAME_MOST = 19 };
 
@@ -18,5 +17,8 @@ struct command {
 enum { COMMANDS = 34 };
 
 extern const struct command commands[COMMANDS];
+
+/* A frame of one of them with as many parameters as it takes; 19 has the code in every second one. */
+size_t draw_frame(struct draw *draw, uint8_t *to, const uint8_t *code);
 
 #endif

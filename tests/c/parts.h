@@ -17,5 +17,6 @@ void run_hunts(const struct settings *settings);
 void run_changes(const struct settings *settings);
 void run_readings(const struct settings *settings);
 void run_streams(const struct settings *settings);
+void run_captures(const struct settings *settings);
 
 #endif

@@ -14,8 +14,9 @@ bool call_named(const char *name, enum call *call) {
     return i < CALLS;
 }
 
-/* The two differ in nothing but the names of their calls and of their answer. */
-DEFINE_RUN(board)
-DEFINE_RUN(second)
+/* The two differ in nothing but the names of their calls and of their answers. */
+DEFINE_CALLS(board)
+DEFINE_CALLS(second)
 
-const struct program programs[PROGRAMS] = {{"proved", run_board}, {"second", run_second}};
+const struct program programs[PROGRAMS] = {{"proved", run_board, read_board},
+                                           {"second", run_second, read_second}};

@@ -6,6 +6,7 @@
 
 #include <stdbool.h>
 
+/* The calls over a record. */
 enum call { CALL_FACTORY, CALL_POWER_ON, CALL_BYTES, CALL_SAMPLES, CALLS };
 
 extern const char *const call_names[CALLS];
@@ -26,15 +27,17 @@ struct request {
 
 enum { PROVED, SECOND, PROGRAMS };
 
+/* The calls over a record behind one function; the reader has no record and another answer. */
 struct program {
     const char *name;
     struct board_answer (*run)(const struct request *request);
+    struct board_reading (*read)(const uint8_t *capture, size_t capture_len, uint32_t *list, size_t list_len);
 };
 
 extern const struct program programs[PROGRAMS];
 
-/* Defines run_NAME over the calls NAME_factory, NAME_power_on, NAME_bytes and NAME_samples. */
-#define DEFINE_RUN(program)                                                                                  \
+/* Defines run_NAME over NAME_factory, NAME_power_on, NAME_bytes and NAME_samples, and read_NAME. */
+#define DEFINE_CALLS(program)                                                                                \
     static struct board_answer run_##program(const struct request *r) {                                      \
         struct program##_answer a = {99, 99, 99};                                                            \
         switch (r->call) {                                                                                   \
@@ -55,6 +58,11 @@ extern const struct program programs[PROGRAMS];
             break;                                                                                           \
         }                                                                                                    \
         return (struct board_answer){a.result, a.written, a.skipped};                                        \
+    }                                                                                                        \
+    static struct board_reading read_##program(const uint8_t *capture, size_t capture_len, uint32_t *list,   \
+                                               size_t list_len) {                                            \
+        const struct program##_reading r = program##_read(capture, capture_len, list, list_len);             \
+        return (struct board_reading){r.result, r.entries, r.skipped, r.unread};                             \
     }
 
 #endif

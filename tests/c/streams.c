@@ -10,34 +10,9 @@
 /* An item of a stream is at most so long. */
 enum { STREAM_MOST = 6000, ITEM_MOST = 64 };
 
-static uint8_t one_of(struct draw *draw, const uint8_t *bytes, uint32_t len) {
-    return bytes[draw_below(draw, len)];
-}
-
-/* Mostly bytes at the ends of ranges, and bytes that mean something to the hunt. */
-static uint8_t draw_parameter(struct draw *draw) {
-    static const uint8_t edges[] = {0x00, 0x01, 0x02, 0x03, 0x04, 0x05, 0x06, 0x07, 0x0C, 0x0D, 0x3B,
-                                    0x3C, 0x3F, 0x40, 0x7F, 0x80, 0x85, 0x90, 0xAA, 0xEB, 0xEC, 0xFF};
-    return draw_below(draw, 4) == 0 ? draw_byte(draw) : one_of(draw, edges, sizeof edges);
-}
-
-static size_t put_good(struct draw *draw, uint8_t *to, const uint8_t *code) {
-    const struct command *command = &commands[draw_below(draw, COMMANDS)];
-    const size_t count = command->least + draw_below(draw, command->most - command->least + 1u);
-    uint8_t parameters[PARAMETERS_MOST];
-    for (size_t i = 0; i < count; i++)
-        parameters[i] = draw_parameter(draw);
-    /* Small numbers make more pairs of two bytes that are in range. */
-    if (count == 2 && draw_below(draw, 2) == 0)
-        parameters[0] = (uint8_t)draw_below(draw, 7);
-    if (command->number == 0x19 && draw_below(draw, 2) == 0)
-        memcpy(parameters, code, CODE_SIZE);
-    return put_frame(to, command->kind, command->number, parameters, count);
-}
-
 /* A good frame with one bit of head or number, or one byte anywhere, not as it should be. */
 static size_t put_nearly_good(struct draw *draw, uint8_t *to, const uint8_t *code) {
-    const size_t len = put_good(draw, to, code);
+    const size_t len = draw_frame(draw, to, code);
     if (draw_below(draw, 2) == 0)
         to[1 + draw_below(draw, 2)] ^= (uint8_t)(1u << draw_below(draw, 8));
     else
@@ -53,7 +28,7 @@ static size_t put_nested(struct draw *draw, uint8_t *to, const uint8_t *code) {
     to[1] = (uint8_t)((draw_below(draw, 2) == 0 ? AMPLIFIER : BT121) | count);
     to[2] = commands[draw_below(draw, COMMANDS)].number;
     while (len < 4 + count)
-        len += put_good(draw, to + len, code);
+        len += draw_frame(draw, to + len, code);
     if (draw_below(draw, 2) == 0)
         to[3 + count] = 0x85;
     return len;
@@ -69,7 +44,7 @@ static size_t put_noise(struct draw *draw, uint8_t *to) {
         if (kind == 0)
             to[i] = draw_byte(draw);
         else
-            to[i] = one_of(draw, close, kind == 1 ? 4 : sizeof close);
+            to[i] = draw_one(draw, close, kind == 1 ? 4 : sizeof close);
     }
     return len;
 }
@@ -79,13 +54,13 @@ static size_t put_item(struct draw *draw, uint8_t *to, const uint8_t *code) {
     case 0:
         return put_nearly_good(draw, to, code);
     case 1:
-        return draw_below(draw, (uint32_t)put_good(draw, to, code));
+        return draw_below(draw, (uint32_t)draw_frame(draw, to, code));
     case 2:
         return put_nested(draw, to, code);
     case 3:
         return put_noise(draw, to);
     default:
-        return put_good(draw, to, code);
+        return draw_frame(draw, to, code);
     }
 }
 

@@ -1,7 +1,7 @@
 /* Tables of calls with what the documents expect of them, run on each program by itself. */
+#include "both_read.h"
 #include "hex.h"
 #include "parts.h"
-#include "programs.h"
 #include "record.h"
 #include "tally.h"
 
@@ -9,12 +9,12 @@
 #include <stdlib.h>
 #include <string.h>
 
-enum { LINE_MOST = 2000, BYTES_MOST = 600 };
+enum { LINE_MOST = 2000, BYTES_MOST = 600, NUMBERS = BOARD_ENTRY_NUMBERS };
 
 /* The columns of a row, in order. */
 enum { START, CALL, INPUT, OUTPUT, SKIPPED, CHANGES, PLACE, COLUMNS };
 
-/* A row: what is given and what has to come out. */
+/* A row with a record: what is given and what has to come out. */
 struct row {
     bool from_factory;
     enum call call;
@@ -22,6 +22,14 @@ struct row {
     size_t input_len, output_len;
     uint32_t skipped;
     char *changes;
+};
+
+/* A row of the reader: a capture and what has to be read from it. */
+struct capture_row {
+    uint8_t capture[BYTES_MOST];
+    uint32_t list[BYTES_MOST];
+    size_t capture_len;
+    struct board_reading answer;
 };
 
 /* Where the row stands, for what is printed. */
@@ -65,9 +73,15 @@ static size_t hex_column(struct place place, const char *text, uint8_t *bytes, s
     return len;
 }
 
-static void read_row(struct place place, char *line, struct row *row) {
-    char *columns[COLUMNS], *end;
-    split(place, line, columns);
+static uint32_t number_column(struct place place, const char *text, const char *what) {
+    char *end;
+    const unsigned long number = strtoul(text, &end, 10);
+    if (end == text || *end != '\0')
+        stop(place, what);
+    return (uint32_t)number;
+}
+
+static void read_row(struct place place, char **columns, struct row *row) {
     row->from_factory = strcmp(columns[START], "factory") == 0;
     if (!row->from_factory && strcmp(columns[START], "then") != 0)
         stop(place, "starts neither from factory nor then");
@@ -75,10 +89,36 @@ static void read_row(struct place place, char *line, struct row *row) {
         stop(place, "no such call");
     row->input_len = hex_column(place, columns[INPUT], row->input, BYTES_MOST);
     row->output_len = hex_column(place, columns[OUTPUT], row->output, BYTES_MOST);
-    row->skipped = (uint32_t)strtoul(columns[SKIPPED], &end, 10);
-    if (end == columns[SKIPPED] || *end != '\0')
-        stop(place, "no number of bytes skipped");
+    row->skipped = number_column(place, columns[SKIPPED], "no number of bytes skipped");
     row->changes = columns[CHANGES];
+}
+
+/* Entries are head and status in hex, place and count as numbers, with commas between them. */
+static uint32_t list_column(struct place place, const char *text, uint32_t *list) {
+    size_t numbers = 0;
+    while (*text != '\0' && numbers < BYTES_MOST) {
+        char *end;
+        list[numbers] = (uint32_t)strtoul(text, &end, numbers % NUMBERS < BOARD_ENTRY_PLACE ? 16 : 10);
+        if (end == text)
+            stop(place, "no entries");
+        numbers++;
+        text = end + (numbers % NUMBERS == 0 && *end == ',' ? 1 : 0);
+    }
+    if (*text != '\0' || numbers % NUMBERS != 0)
+        stop(place, "not whole entries, or too many");
+    return (uint32_t)(numbers / NUMBERS);
+}
+
+static void read_capture_row(struct place place, char **columns, struct capture_row *row) {
+    if (strcmp(columns[START], "none") != 0)
+        stop(place, "the reader starts from none");
+    row->capture_len = hex_column(place, columns[INPUT], row->capture, BYTES_MOST);
+    row->answer.result = BOARD_DONE;
+    row->answer.entries = list_column(place, columns[OUTPUT], row->list);
+    row->answer.skipped = number_column(place, columns[SKIPPED], "no number of bytes skipped");
+    if (strncmp(columns[CHANGES], "unread=", 7) != 0)
+        stop(place, "no number of bytes unread");
+    row->answer.unread = number_column(place, columns[CHANGES] + 7, "no number of bytes unread");
 }
 
 /* The changes are words such as power=FFEC. */
@@ -123,11 +163,50 @@ static void run_row(struct place place, const struct row *row, const struct prog
     tally_printed();
 }
 
-static void run_table(const char *name) {
-    uint8_t expected[RECORD_SIZE] = {0}, records[PROGRAMS][RECORD_SIZE] = {{0}};
-    struct place place = {name, 0};
-    char line[LINE_MOST];
+static void run_capture_row(struct place place, const struct capture_row *row,
+                            const struct program *program) {
+    uint32_t list[BYTES_MOST];
+    const struct board_reading answer = program->read(row->capture, row->capture_len, list, BYTES_MOST);
+    const bool good = same_reading(answer, row->answer) &&
+                      memcmp(list, row->list, NUMBERS * answer.entries * sizeof *list) == 0;
+    if (!tally_case(good))
+        return;
+    printf("differs: %s:%lu: %s\n", place.file, place.line, program->name);
+    show_reading("expected", row->answer, row->list, BYTES_MOST);
+    show_reading("read", answer, list, BYTES_MOST);
+    tally_printed();
+}
+
+static void one_capture(struct place place, char **columns) {
+    struct capture_row row;
+    read_capture_row(place, columns, &row);
+    for (int i = 0; i < PROGRAMS; i++)
+        run_capture_row(place, &row, &programs[i]);
+}
+
+/* The record that the rows so far have to leave, and what each program has left. */
+struct records {
+    uint8_t expected[RECORD_SIZE], left[PROGRAMS][RECORD_SIZE];
+};
+
+static void one_call(struct place place, char **columns, struct records *records) {
     struct row row;
+    read_row(place, columns, &row);
+    if (row.from_factory)
+        memcpy(records->expected, factory_record, RECORD_SIZE);
+    change(place, records->expected, row.changes);
+    for (int i = 0; i < PROGRAMS; i++) {
+        const struct request factory = {CALL_FACTORY, records->left[i], RECORD_SIZE, NULL, 0, NULL, 0};
+        if (row.from_factory)
+            programs[i].run(&factory);
+        run_row(place, &row, &programs[i], records->left[i], records->expected);
+    }
+}
+
+static void run_table(const char *name) {
+    struct records records = {0};
+    struct place place = {name, 0};
+    char line[LINE_MOST], *columns[COLUMNS];
     FILE *file = fopen(name, "r");
     if (file == NULL)
         stop(place, "cannot be read");
@@ -135,16 +214,11 @@ static void run_table(const char *name) {
         place.line++;
         if (line[0] == '#' || line[0] == '\n')
             continue;
-        read_row(place, line, &row);
-        if (row.from_factory)
-            memcpy(expected, factory_record, RECORD_SIZE);
-        change(place, expected, row.changes);
-        for (int i = 0; i < PROGRAMS; i++) {
-            const struct request factory = {CALL_FACTORY, records[i], RECORD_SIZE, NULL, 0, NULL, 0};
-            if (row.from_factory)
-                programs[i].run(&factory);
-            run_row(place, &row, &programs[i], records[i], expected);
-        }
+        split(place, line, columns);
+        if (strcmp(columns[CALL], "read") == 0)
+            one_capture(place, columns);
+        else
+            one_call(place, columns, &records);
     }
     fclose(file);
 }

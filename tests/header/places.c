@@ -30,6 +30,10 @@ _Static_assert(BOARD_PAIRS_SIZE == 6 * BOARD_PAIR_SIZE, "six pairs");
 _Static_assert(BOARD_PENDING_SIZE == BOARD_PENDING_MOST, "room for the most bytes pending");
 _Static_assert(BOARD_ROOM_MOST == 19532, "the room of document 01");
 _Static_assert((BOARD_FLAG_OPEN | BOARD_FLAG_SENDING) == 5, "as E0 leaves them in a new record");
+_Static_assert(BOARD_ENTRIES(BOARD_CAPTURE_MOST) == 1024, "the entries of document 02");
+
+/* So many numbers are a list for a capture of so many bytes. */
+#define LIST_LEN(capture_len) (BOARD_ENTRY_NUMBERS * BOARD_ENTRIES(capture_len))
 
 enum { NOTHING, OPENED, UNLOCKED };
 
@@ -172,10 +176,33 @@ static void check_helpers(void) {
     }
 }
 
-/* All inputs and a sample with every buffer so far behind an aligned address; 1 if all calls are done. */
+/* A reply between a byte of noise and one that waits. */
+static void check_entry(void) {
+    static const uint8_t capture[] = {0x00, 0xAA, 0x62, 0x54, 0x01, 0x02, 0x85, 0xAA};
+    uint32_t list[LIST_LEN(sizeof capture)];
+    const struct board_reading reading = board_read(capture, sizeof capture, list, LIST_LEN(sizeof capture));
+    check("reading", 0, reading.result == BOARD_DONE && reading.entries == 1);
+    check("skipped and unread", 0, reading.skipped == 1 && reading.unread == 1);
+    check("head", 0, list[BOARD_ENTRY_HEAD] == 0x62);
+    check("status", 0, list[BOARD_ENTRY_STATUS] == 0x54);
+    check("place", 0, list[BOARD_ENTRY_PLACE] == 4);
+    check("count", 0, list[BOARD_ENTRY_COUNT] == 2);
+}
+
+static void check_capture_most(void) {
+    static uint8_t capture[BOARD_CAPTURE_MOST + 1];
+    static uint32_t list[LIST_LEN(BOARD_CAPTURE_MOST)];
+    const size_t len = LIST_LEN(BOARD_CAPTURE_MOST);
+    check("longest capture", 0, board_read(capture, sizeof capture - 1, list, len).result == BOARD_DONE);
+    check("longer capture", 0, board_read(capture, sizeof capture, list, len).result == BOARD_BAD_LENGTH);
+    check("short list", 0, board_read(capture, sizeof capture - 1, list, len - 1).result == BOARD_NO_ROOM);
+}
+
+/* Inputs, a sample and its frame read, all bytes so far behind an aligned address; 1 if all are done. */
 static int session_at(size_t shift, uint8_t *left) {
     static _Alignas(16) uint8_t records[16 + BOARD_RECORD_SIZE], inputs[16 + 32], outputs[16 + 256];
     uint8_t *record = records + shift, *input = inputs + shift, *output = outputs + shift;
+    uint32_t list[LIST_LEN(BOARD_FRAME_SIZE)];
     int done = board_factory(record, BOARD_RECORD_SIZE).result == BOARD_DONE;
     for (size_t i = 0; i < sizeof changes / sizeof *changes; i++) {
         memcpy(input, changes[i].input, changes[i].len);
@@ -185,6 +212,7 @@ static int session_at(size_t shift, uint8_t *left) {
     memset(input, 0x40, BOARD_SAMPLE_SIZE);
     done &=
         board_samples(record, BOARD_RECORD_SIZE, input, BOARD_SAMPLE_SIZE, output, 256).result == BOARD_DONE;
+    done &= board_read(output, BOARD_FRAME_SIZE, list, LIST_LEN(BOARD_FRAME_SIZE)).entries == 1;
     memcpy(left, record, BOARD_RECORD_SIZE);
     memcpy(left + BOARD_RECORD_SIZE, output, BOARD_FRAME_SIZE);
     done &= board_power_on(record, BOARD_RECORD_SIZE).result == BOARD_DONE;
@@ -211,6 +239,8 @@ int main(void) {
     check_fixed();
     check_pairs();
     check_helpers();
+    check_entry();
+    check_capture_most();
     check_alignment();
     check_version();
     printf("places: %u passed, %u failed\n", passed, failed);
