@@ -107,8 +107,8 @@ abbrev pub RowsRead : List ReadRow → Type 0
 RowsRead [] = Unit {0}
 RowsRead (r ∷ rs) =
     (
-      (readCall (r .capture) (replicate (4 * (length (r .capture) / 4)) 0) .answer ≡ record { result = 0; entries = length (r .numbers) / 4; skipped = r .skipped; unread = r .unread })
-      × (take (length (r .numbers)) (readCall (r .capture) (replicate (4 * (length (r .capture) / 4)) 0) .list) ≡ r .numbers)
+    (readCall (r .capture) (replicate (4 * (length (r .capture) / 4)) 0) .answer ≡ record { result = 0; entries = length (r .numbers) / 4; skipped = r .skipped; unread = r .unread })
+    × (take (length (r .numbers)) (readCall (r .capture) (replicate (4 * (length (r .capture) / 4)) 0) .list) ≡ r .numbers)
     )
     × RowsRead rs
 

@@ -6,23 +6,22 @@ use mathlib.Core.List.{List}
 use mathlib.Core.Bool.{Bool, true, false, not, _&&_}
 use native.Mathlib.Nat.{add-zero}
 use native.Mathlib.Omega.{arith}
-use lib.ListN.{length, getD, take, drop, length-drop}
+use lib.ListN.{length, getD, drop, length-drop}
 use lib.Seq.{getD-drop}
 use lib.Dec.{eqb}
 use borrow.Author.Tests.{eq-eqb, ne-eqb, eqb-false, not-true}
 use Rattle.wire.specs.Frames.{Heads, Look, Skip, Wait, Take, Tear, look, Passed}
-use Rattle.wire.specs.Heads.{endsIn85, Noise}
-use Rattle.wire.specs.Lines.{lineHead, headsOf}
 use Rattle.wire.specs.declared.Size.the-variants.{Of}
+use Rattle.wire.specs.Serial.{Fixed, NotHead, fronted, endsIn85, lineHead, headsOf, Noise}
 use Rattle.wire.specs.declared.Line.{Line}
 use Rattle.finder.specs.Finder.{noAA, Reaches, StandsAt, Finds}
 use Rattle.finder.specs.declared.Seen.{Seen}
 use Rattle.finder.specs.declared.Seen.the-variants.{Frame, Torn, NoMore}
 use Rattle.finder.specs.declared.Found.{Found}
 use Rattle.wire.proofs.Stretches.{before-or-not, stretch-one, stretch-on}
-use Rattle.wire.proofs.CutLaws.{look-unfinished, look-torn, look-frame}
-use Rattle.wire.proofs.HeadLaws.{noise-passed, closed-is}
-use Rattle.wire.proofs.LineLaws.{heads-of}
+use Rattle.wire.proofs.CutLaws.{look-unsaid}
+use Rattle.wire.proofs.CutLaws as cuts
+use Rattle.wire.proofs.SerialLaws.{heads-of, noise-passed, alone-at, told-at, candidate-waits, candidate-torn, candidate-frame}
 
 both-by : (s t : Bool) → (s && t) ≡ true → (s ≡ true) × (t ≡ true)
 both-by true true e = (refl, refl)
@@ -57,33 +56,40 @@ reaches-on l from until at r h n =
 
 -- ---- at a place
 
-module _ (k : Line) (l : List ℕ) where
+module _ (k : Line) (l : List ℕ) (at : ℕ) where
   -- after bytes that are skipped come bytes that are no AA
-  pub passed-noise : (at from mid : ℕ) → Passed (headsOf k) l from mid → Noise l mid at → Passed (headsOf k) l from at
-  passed-noise at from mid p q =
+  pub passed-noise : (from mid : ℕ) → Passed (headsOf k) l from mid → Noise l mid at → Passed (headsOf k) l from at
+  passed-noise from mid p q =
       stretch-on l (λ i. look (headsOf k) (drop i l) ≡ Skip) from mid at p (rw (heads-of k) (noise-passed (lineHead k) endsIn85 l mid at q))
 
-  -- a candidate frame
-  module _ (at n : ℕ) (said : headsOf k .size (drop at l) ≡ Of n) where
-    pub scan-waits : at < length l → length l ≤ at + 3 + n → look (headsOf k) (drop at l) ≡ Wait
-    scan-waits b h = look-unfinished (headsOf k) (drop at l) n said (rw length-drop (omega arith))
+  module _ (aa : getD l at 0 ≡ 0xAA) where
+    pub look-alone : length l ≤ at + 1 → look (headsOf k) (drop at l) ≡ Wait
+    look-alone h = rw (heads-of k) (look-unsaid (fronted (lineHead k) endsIn85) (drop at l) (alone-at (lineHead k) l at aa h))
 
-    -- its last place
-    module _ (place : ℕ) (e : place ≡ at + 3 + n) (h : at + 3 + n < length l) where
-      all : 4 + n ≤ length (drop at l)
-      all = rw length-drop (omega arith)
+    pub look-headless : at + 1 < length l → lineHead k (getD l (at + 1) 0) ≡ NotHead → look (headsOf k) (drop at l) ≡ Skip
+    look-headless two h = rw (heads-of k) (cuts.look-headless (fronted (lineHead k) endsIn85) (drop at l) (told-at (lineHead k) l at aa two ∙ rw h refl))
 
-      last : getD (drop at l) (3 + n) 0 ≡ getD l place 0
-      last = getD-drop at l (3 + n) 0 ∙ ap (λ (i : ℕ). getD l i 0) (let z : at + (3 + n) ≡ place = omega arith in z)
+-- ---- a candidate frame
 
-      ended : headsOf k .sound (take (4 + n) (drop at l)) ≡ eqb (getD l place 0) 0x85
-      ended = rw (heads-of k) (closed-is n (drop at l) all ∙ rw last refl)
+pub record Candidate (k : Line) (l : List ℕ) (at n : ℕ) : Type 0 where
+  pub aa : getD l at 0 ≡ 0xAA
+  pub two : at + 1 < length l
+  pub head : lineHead k (getD l (at + 1) 0) ≡ Fixed n
 
-      pub scan-torn : (getD l place 0 ≡ 0x85 → ⊥) → look (headsOf k) (drop at l) ≡ Tear
-      scan-torn b = look-torn (headsOf k) (drop at l) n said all (ended ∙ ne-eqb (getD l place 0) 0x85 b)
+module _ (k : Line) (l : List ℕ) (at n : ℕ) (c : Candidate k l at n) where
+  said : fronted (lineHead k) endsIn85 .size (drop at l) ≡ Of n
+  said = told-at (lineHead k) l at (c .aa) (c .two) ∙ rw (c .head) refl
 
-      pub scan-frame : getD l place 0 ≡ 0x85 → look (headsOf k) (drop at l) ≡ Take n
-      scan-frame b = look-frame (headsOf k) (drop at l) n said all (ended ∙ eq-eqb (getD l place 0) 0x85 b)
+  pub scan-waits : length l ≤ at + 3 + n → look (headsOf k) (drop at l) ≡ Wait
+  scan-waits h = rw (heads-of k) (candidate-waits (lineHead k) l at n said (omega (arith, c .two)) h)
+
+  -- its last place
+  module _ (place : ℕ) (e : place ≡ at + 3 + n) (h : at + 3 + n < length l) where
+    pub scan-torn : (getD l place 0 ≡ 0x85 → ⊥) → look (headsOf k) (drop at l) ≡ Tear
+    scan-torn b = rw (heads-of k) (candidate-torn (lineHead k) l at n said place e h b)
+
+    pub scan-frame : getD l place 0 ≡ 0x85 → look (headsOf k) (drop at l) ≡ Take n
+    scan-frame b = rw (heads-of k) (candidate-frame (lineHead k) l at n said place e h b)
 
 -- ---- nothing found
 

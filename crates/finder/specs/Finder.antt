@@ -7,7 +7,7 @@ use mathlib.Core.List.{List}
 use lib.ListN.{getD, drop}
 use lib.Dec.{eqb}
 use Rattle.wire.specs.Frames.{Heads, look, Wait, Take, Tear, Passed}
-use Rattle.wire.specs.Heads.{Noise}
+use Rattle.wire.specs.Serial.{Noise}
 use Rattle.finder.specs.declared.Seen.{Seen}
 use Rattle.finder.specs.declared.Seen.the-variants.{Frame, Torn, NoMore}
 use Rattle.finder.specs.declared.Found.{Found}

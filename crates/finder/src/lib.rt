@@ -3,12 +3,11 @@ ghost use mathlib.Core.Path.{_≡_};
 ghost use Prim.Native.Nat.{_+_, _≤_, _<_};
 ghost use lib.ListN.{length};
 ghost use Rattle.wire.specs.Sizes.{streamMost};
-ghost use Rattle.wire.specs.Heads.{Noise};
-ghost use Rattle.wire.specs.Lines.{headsOf};
+ghost use Rattle.wire.specs.Serial.{headsOf, Noise};
 ghost use Rattle.finder.specs.Finder.{noAA, Reaches, Finds};
-use buffer::heads::size_at;
+use buffer::heads::announced_by;
+use wire::Announced;
 use wire::Line;
-use wire::Size;
 
 // What the finder stopped at: a frame with so many parameters, a broken head, or nothing that can be decided.
 pub enum Seen {
@@ -55,7 +54,7 @@ fn leap(s: &[u8], from: usize, until: usize) -> usize
 }
 
 // The place of the next AA, or `until`.
-fn next_aa(s: &[u8], from: usize, until: usize) -> usize
+pub fn next_aa(s: &[u8], from: usize, until: usize) -> usize
     requires { ⌜ (from < until) × (until ≤ length (now s)) ⌝ }
     ensures { λ r. ⌜ Reaches (now (s .entry)) from until r ⌝ }
 {
@@ -84,15 +83,13 @@ pub fn find(line: Line, s: &[u8], from: usize, until: usize) -> Found
             at = next_aa(s, at, until);
             continue 'hunt;
         }
-        let n = match size_at(line, s, at) {
-            Size::NoHead => {
-                at += 1;
-                continue 'hunt;
-            }
-            Size::NeedMore => {
-                break 'hunt;
-            }
-            Size::Of(n) => n,
+        let next = at + 1;
+        if s.len() <= next {
+            break 'hunt;
+        }
+        let Announced::Params(n) = announced_by(line, s[next]) else {
+            at += 1;
+            continue 'hunt;
         };
         let last = at + 3 + n;
         if s.len() <= last {

@@ -1,7 +1,7 @@
 -- The pending bytes, as the check reads them from a place on.
 use Prim.Native.Nat.{ℕ, zero, suc, _+_, _%_, _≤_, _<_}
-use mathlib.Core.Path.{_≡_, refl, sym, ap, _∙_}
-use mathlib.Core.Bool.{true, false, _&&_}
+use mathlib.Core.Path.{_≡_, refl, sym, ap, ap₂, _∙_}
+use mathlib.Core.Bool.{Bool, true, false, _&&_}
 use mathlib.Core.List.{List}
 use native.Mathlib.Nat.{add-zero}
 use native.Mathlib.Omega.{arith}
@@ -10,6 +10,10 @@ use lib.Seq.{getD-take, getD-drop, length-take-le}
 use lib.Dec.{ltb}
 use Rattle.wire.specs.Frames.{waits}
 use Rattle.wire.specs.Serial.{isHead, serial}
+use Rattle.wire.specs.Heads.{announcedOf}
+use Rattle.wire.specs.declared.Line.the-variants.{Board}
+use Rattle.wire.specs.declared.Announced.the-variants.{Params, NoFrame}
+use Rattle.wire.proofs.HeadLaws.{no-head, some-head}
 use Rattle.wire.proofs.SerialLaws.{waits-none, waits-not, waits-one, waits-head}
 
 module _ (s : List ℕ) (at n : ℕ) (within : at + n ≤ length s) where
@@ -50,7 +54,7 @@ module _ (s : List ℕ) (at n : ℕ) (within : at + n ≤ length s) where
         abbrev b : ℕ
         b = getD s (at + 1) 0
 
-        pub head : (isHead b && ltb n (4 + b % 16)) ≡ waits serial (take n (drop at s))
+        head : (isHead b && ltb n (4 + b % 16)) ≡ waits serial (take n (drop at s))
         head =
             let two : 1 < length pending = rw long (above n some further) in
             sym (waits-head pending more first two ∙ rw (at-place 1 (omega (arith, two, long)), long) refl)
@@ -59,3 +63,9 @@ module _ (s : List ℕ) (at n : ℕ) (within : at + n ≤ length s) where
             above zero h k = absurd (h refl)
             above (suc zero) h k = absurd (k refl)
             above (suc (suc m)) h k = omega arith
+
+        pub headless : announcedOf Board b ≡ NoFrame → false ≡ waits serial (take n (drop at s))
+        headless e = sym (ap (λ (t : Bool). t && ltb n (4 + b % 16)) (no-head b e)) ∙ head
+
+        pub headed : (k : ℕ) → announcedOf Board b ≡ Params k → ltb n (4 + k) ≡ waits serial (take n (drop at s))
+        headed k e = let w = some-head b k e in sym (ap₂ (λ (t : Bool) (j : ℕ). t && ltb n (4 + j)) (w .0) (w .1)) ∙ head

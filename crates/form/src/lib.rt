@@ -15,7 +15,7 @@ ghost use Rattle.record.specs.Limits.{nameRange};
 ghost use Rattle.record.specs.Form.{partFits, several, allFine, formOf};
 ghost use Rattle.low.specs.Low.{lowBytes};
 ghost use Rattle.form.specs.Groups.{headFields, radioFields, inputFields, switchFields, nameFields, pendingFields, pairFields};
-use buffer::heads::is_head;
+use buffer::heads::announced_by;
 use limits::INPUT_TYPE_MOST;
 use limits::MODE_MOST;
 use limits::ON_OFF_MOST;
@@ -58,6 +58,8 @@ use record::places::PENDING_ROOM;
 use record::places::RECORD_SIZE;
 use record::places::SIZE_FIELD;
 use record::places::VERSION;
+use wire::Announced;
+use wire::Line;
 
 const PAIRS: usize = CHANNELS as usize;
 
@@ -153,8 +155,10 @@ fn waiting_fine(s: &[u8], at: usize, n: usize) -> bool
     if n == 1 {
         return true;
     }
-    let b = s[at + 1];
-    is_head(b) & (n < 4 + (b % 16) as usize)
+    let Announced::Params(k) = announced_by(Line::Board, s[at + 1]) else {
+        return false;
+    };
+    n < 4 + k
 }
 
 fn pending_fine(s: &[u8]) -> bool

@@ -1,10 +1,9 @@
 // Received bytes: every frame of the stream carried out, and what waits kept.
 ghost use mathlib.Core.Path.{_≡_};
-ghost use mathlib.Core.Bool.{true};
 ghost use Prim.Native.Nat.{_+_, _-_, _≤_};
 ghost use lib.ListN.{length, take, drop};
 ghost use Rattle.wire.specs.Sizes.{frameMost, waitMost, inputMost, streamMost, joinMost};
-ghost use Rattle.wire.specs.Lines.{headsOf, isCommands};
+ghost use Rattle.wire.specs.Serial.{headsOf};
 ghost use Rattle.record.specs.Layout.{pendingRoom, recordOf};
 ghost use Rattle.record.specs.InPlace.{Sound};
 ghost use Rattle.command.specs.Entries.{entries};
@@ -54,7 +53,7 @@ fn hunt_in(
     out: &mut [u8],
     start: usize,
 ) -> Progress
-    requires { ⌜ (isCommands line ≡ true) × (now table ≡ entries) ⌝ }
+    requires { ⌜ now table ≡ entries ⌝ }
     requires { ⌜ Sound (now rec) ⌝ }
     requires { ⌜ (until ≤ length (now s)) × (length (now s) ≤ streamMost) ⌝ }
     requires { ⌜ start + roomFor (length (now s)) ≤ length (now out) ⌝ }
@@ -120,7 +119,7 @@ fn hunt_rest(
     out: &mut [u8],
     start: usize,
 ) -> Progress
-    requires { ⌜ (isCommands line ≡ true) × (now table ≡ entries) ⌝ }
+    requires { ⌜ now table ≡ entries ⌝ }
     requires { ⌜ Sound (now rec) ⌝ }
     requires { ⌜ length (now s) ≤ streamMost ⌝ }
     requires { ⌜ start + roomFor (length (now s)) ≤ length (now out) ⌝ }

@@ -1,17 +1,20 @@
 -- Each turn of a reading, and its end.
 use Prim.Native.Nat.{ℕ, _+_, _-_, _*_, _/_, _≤_, _<_}
-use mathlib.Core.Path.{_≡_, refl, sym, ap, _∙_}
-use mathlib.Core.Logic.{_⊎_, ⊎-elim}
+use mathlib.Core.Path.{_≡_, refl, sym, ap, subst, _∙_}
+use mathlib.Core.Logic.{_⊎_, ⊎-elim, _≢_}
 use mathlib.Core.List.{List, [], _∷_, _++_, append-assoc, append-nil}
 use native.Mathlib.Nat.{zero-add, add-zero, add-assoc}
 use native.Mathlib.Omega.{arith}
-use lib.ListN.{length, take, drop, length-append, length-drop, drop-of-length-le}
+use lib.ListN.{length, getD, take, drop, length-append, length-drop, drop-of-length-le}
 use lib.Seq.{drop-drop}
 use Rattle.wire.specs.Numbers.{put}
-use Rattle.wire.specs.Frames.{Wait, Take, Tear, look, Cut, stop, cut, Placed, placedFrom, Passed}
+use Rattle.wire.specs.declared.Size.the-variants.{NoHead, Of}
+use Rattle.wire.specs.Serial.{Noise}
+use Rattle.wire.specs.Frames.{Skip, Wait, Take, Tear, look, Cut, stop, cut, Placed, placedFrom, Passed}
 use Rattle.wire.specs.Reader.{Entry, reader, entryOf, entriesOf, entryNumbers, listOf}
-use Rattle.wire.proofs.CutLaws.{take-room, tear-room, cut-nil, cut-wait, cut-take, cut-tear}
-use Rattle.wire.proofs.Stretches.{passed-cuts}
+use Rattle.wire.proofs.CutLaws.{look-headless, take-room, tear-room, cut-nil, cut-wait, cut-take, cut-tear}
+use Rattle.wire.proofs.Stretches.{stretch-none, stretch-one, passed-cuts}
+use Rattle.wire.proofs.ReaderLaws.{head-no-aa, read-torn, read-frame, read-noise}
 use Rattle.wire.proofs.PlacedLaws.{placed-nil, placed-wait, placed-tear, placed-take, placed-pass}
 use Rattle.wire.proofs.EntryLaws.{entries-cons, entries-none, list-one, length-list}
 use Rattle.wire.proofs.PutLaws.{put-nil, put-put, length-put}
@@ -85,7 +88,7 @@ module _ (l before : List ℕ) where
       writes = r .writes;
     }
 
-    pub reads-tear : look reader (drop at l) ≡ Tear → Reads l before (at + 1) entries framed list
+    reads-tear : look reader (drop at l) ≡ Tear → Reads l before (at + 1) entries framed list
     reads-tear e = record {
       es = r .es;
       many = r .many;
@@ -97,6 +100,11 @@ module _ (l before : List ℕ) where
       waits = r .waits ∙ rw (cut-tear reader (drop at l) e, drop-drop 1 at l) refl;
       writes = r .writes;
     }
+
+    -- an AA that is skipped
+    pub reads-skip : at < length l → reader .size (drop at l) ≡ NoHead → Reads l before (at + 1) entries framed list
+    reads-skip h e =
+        reads-pass (at + 1) (stretch-one l (λ i. look reader (drop i l) ≡ Skip) at at (stretch-none l (λ i. look reader (drop i l) ≡ Skip) at (omega arith)) h (look-headless reader (drop at l) e))
 
     -- at the end of the capture, and at what waits, nothing is left to do
     module _ (stops : (length l ≤ at) ⊎ (look reader (drop at l) ≡ Wait)) where
@@ -118,3 +126,20 @@ module _ (l before : List ℕ) where
         writes = r .writes ∙ rw all-read refl;
         fits = (omega (arith, r .fours, r .few, r .within), omega (arith, r .within), omega arith);
       }
+
+-- a candidate whose last byte is not 85: its AA is skipped, and then its head
+pub reads-torn : (l before : List ℕ) (at entries framed : ℕ) (list : List ℕ) → Reads l before at entries framed list → getD l at 0 ≡ 0xAA → (n : ℕ) → reader .size (drop at l) ≡ Of n
+    → at + 3 + n < length l → (getD l (at + 3 + n) 0 ≡ 0x85 → ⊥) → Reads l before (at + 2) entries framed list
+reads-torn l before at entries framed list r aa n e h t =
+    let one = reads-tear l before at entries framed list r (read-torn l at n e h t) in
+    let m : at + 2 ≡ at + 1 + 1 = omega arith in
+    let quiet : Noise l (at + 1) (at + 1 + 1) = stretch-one l (λ i. getD l i 0 ≢ 0xAA) (at + 1) (at + 1) (stretch-none l (λ i. getD l i 0 ≢ 0xAA) (at + 1) (omega arith)) (omega arith) (head-no-aa l at aa (omega arith) n e) in
+    subst (λ (to : ℕ). Reads l before to entries framed list) (sym m) (reads-pass l before (at + 1) entries framed list one (at + 1 + 1) (read-noise l (at + 1) (at + 1 + 1) quiet))
+
+-- a frame, up to the place behind its last byte
+pub reads-frame : (l before : List ℕ) (at entries framed : ℕ) (list : List ℕ) → Reads l before at entries framed list → length l / 4 ≤ length before / 4 → (n : ℕ) → reader .size (drop at l) ≡ Of n
+    → at + 3 + n < length l → getD l (at + 3 + n) 0 ≡ 0x85 → (list′ : List ℕ) → list′ ≡ put list (4 * entries) (entryNumbers (entryOf (record { at = at; frame = take (4 + n) (drop at l) })))
+    → Reads l before (at + 3 + n + 1) (entries + 1) (framed + 4 + n) list′
+reads-frame l before at entries framed list r room n e h t list′ w =
+    let m : at + 4 + n ≡ at + 3 + n + 1 = omega arith in
+    subst (λ (to : ℕ). Reads l before to (entries + 1) (framed + 4 + n) list′) m (reads-take l before at entries framed list r room n (read-frame l at n e h t) list′ w)

@@ -1,4 +1,6 @@
 // The reader: every reply and measuring frame of a capture, as an entry of a list.
+pub mod heads;
+
 ghost use mathlib.Core.Path.{_≡_};
 ghost use Prim.Native.Nat.{_+_, _*_, _/_, _≤_};
 ghost use lib.ListN.{length, take, drop};
@@ -7,13 +9,13 @@ ghost use Rattle.wire.specs.Numbers.{put};
 ghost use Rattle.wire.specs.Reader.{statusIn, entryOf, entryNumbers};
 ghost use Rattle.call.specs.Read.{readCall, ReadLeaves};
 ghost use Rattle.reader.specs.Progress.{ReadsAll};
-use buffer::heads::is_long;
 use call::Ending;
 use call::ReadAnswer;
 use call::read_ended;
-use finder::Seen;
-use finder::find;
-use wire::Line;
+use finder::next_aa;
+use heads::is_long;
+use heads::size_at;
+use wire::Size;
 use wire::sizes::CAPTURE_MOST;
 use wire::sizes::ENTRY_NUMBERS;
 
@@ -59,25 +61,33 @@ fn read_in(s: &[u8], list: &mut [u32]) -> Heard
     let mut entries = 0;
     let mut framed = 0;
     'read: while at < until {
-        let found = find(Line::Reader, s, at, until);
-        let seen = found.seen;
-        at = found.at;
-        match seen {
-            Seen::Frame(n) => {
-                put_entry(list, entries, s, at, n);
-                entries += 1;
-                at = at + 4 + n;
-                framed = framed + 4 + n;
-                continue 'read;
-            }
-            Seen::Torn => {
+        if s[at] != 0xAA {
+            at = next_aa(s, at, until);
+            continue 'read;
+        }
+        let n = match size_at(s, at) {
+            Size::NoHead => {
                 at += 1;
                 continue 'read;
             }
-            Seen::NoMore => {
+            Size::NeedMore => {
                 break 'read;
             }
+            Size::Of(n) => n,
+        };
+        let last = at + 3 + n;
+        if until <= last {
+            break 'read;
         }
+        // The AA is skipped; the head behind it is no AA, so it is skipped too.
+        if s[last] != 0x85 {
+            at += 2;
+            continue 'read;
+        }
+        put_entry(list, entries, s, at, n);
+        entries += 1;
+        framed = framed + 4 + n;
+        at = last + 1;
     }
     Heard {
         entries,

@@ -5,10 +5,9 @@ use mathlib.Core.Bool.{cond, _&&_}
 use native.Mathlib.Omega.{arith}
 use lib.Dec.{leb}
 use Rattle.wire.specs.Sizes.{frameMost}
-use Rattle.wire.specs.Heads.{Fixed, NotHead, endsIn85}
+use Rattle.wire.specs.Serial.{Fixed, NotHead, endsIn85}
 use Rattle.wire.proofs.CutLaws.{Under, waits-short}
-use Rattle.wire.proofs.HeadLaws.{fronted-under}
-use Rattle.wire.proofs.SerialLaws.{low-half, pending-short}
+use Rattle.wire.proofs.SerialLaws.{fronted-under, low-half, pending-short}
 use Rattle.record.specs.Layout.{current, plan1, plan2, plan3, seatHeads, seat}
 use Rattle.record.specs.Laid.{Laid}
 

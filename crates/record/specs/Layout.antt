@@ -9,8 +9,7 @@ use Rattle.wire.specs.Numbers.{halfAt, wordAt, bytes2, bytes4, bytesAt}
 use Rattle.wire.specs.Zeros.{beforeZero}
 use Rattle.wire.specs.Sizes.{waitMost}
 use Rattle.wire.specs.Frames.{Heads}
-use Rattle.wire.specs.Heads.{Fixed, NotHead, fronted, endsIn85}
-use Rattle.wire.specs.Serial.{serial}
+use Rattle.wire.specs.Serial.{Fixed, NotHead, fronted, endsIn85, serial}
 use Rattle.peak.specs.Pairs.{pairsAt, pairsBytes}
 use Rattle.record.specs.Record.{Flags, Outputs, Record}
 

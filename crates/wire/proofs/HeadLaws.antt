@@ -1,107 +1,67 @@
--- Heads that the bytes behind the AA make known: they are steady, how much can wait, and the decision at the front.
-use Prim.Native.Nat.{ℕ, _+_, _-_, _≤_, _<_}
-use mathlib.Core.Path.{_≡_, refl, sym, _∙_}
-use mathlib.Core.List.{List, _++_}
+-- What the byte behind the AA announces, in code and in the definitions.
+use Prim.Native.Nat.{ℕ, _%_, _≤_, _<_}
+use mathlib.Core.Path.{_≡_, refl}
 use mathlib.Core.Bool.{Bool, true, false}
-use native.Mathlib.Nat.{add-zero}
 use native.Mathlib.Omega.{arith}
-use lib.ListN.{length, getD, take, drop, length-append, List·getD-append}
-use lib.Seq.{getD-drop, getD-take, length-take-le}
-use lib.Dec.{ltb, eqb}
-use borrow.Author.Tests.{ltb-true, ltb-false, lt-ltb, le-ltb, eq-eqb, ne-eqb}
-use Rattle.wire.specs.declared.Size.{Size}
-use Rattle.wire.specs.declared.Size.the-variants.{NoHead, NeedMore, Of}
-use Rattle.wire.specs.Frames.{Skip, look, Passed}
-use Rattle.wire.specs.Heads.{Head, NotHead, Fixed, ByThird, told, front, fronted, endsIn85, Noise}
-use Rattle.wire.proofs.CutLaws.{Steady, Under, look-headless}
-use Rattle.wire.proofs.Stretches.{stretch-as}
+use borrow.Author.Tests.{le-leb, lt-leb}
+use Rattle.wire.specs.Sizes.{dataMost, frameMost}
+use Rattle.wire.specs.Serial.{Head, NotHead, Fixed, ByThird, isHead, serialHead, lineHead}
+use Rattle.wire.specs.Heads.{announcedBy, announcedOf}
+use Rattle.wire.specs.declared.Line.{Line}
+use Rattle.wire.specs.declared.Line.the-variants.{Board}
+use Rattle.wire.specs.declared.Announced.the-variants.{Params, NoFrame}
+use Rattle.wire.proofs.SerialLaws.{Brief, line-brief}
 
-longer : (k : ℕ) (l more : List ℕ) → ltb k (length l) ≡ true → ltb k (length (l ++ more)) ≡ true
-longer k l more q = let p : k < length l = ltb-true _ _ q in lt-ltb k (length (l ++ more)) (simp length-append (omega arith))
+pub low-none : (b : ℕ) → b < 0x90 → NoFrame ≡ announcedBy (serialHead b)
+low-none b h = simp (lt-leb 0x90 b h)
 
--- ---- the size at the front
+pub high-none : (b : ℕ) → 0xAF < b → NoFrame ≡ announcedBy (serialHead b)
+high-none b h = let g : 0x90 ≤ b = omega arith in simp (le-leb 0x90 b g, lt-leb b 0xAF h)
 
-module _ (head : ℕ → Head) (sound : List ℕ → Bool) (l : List ℕ) where
-  pub size-other : (getD l 0 0 ≡ 0xAA → ⊥) → fronted head sound .size l ≡ NoHead
-  size-other h = rw (ne-eqb (getD l 0 0) 0xAA h) refl
+pub head-params : (b : ℕ) → 0x90 ≤ b → b ≤ 0xAF → Params (b % 16) ≡ announcedBy (serialHead b)
+head-params b g h = simp (le-leb 0x90 b g, le-leb b 0xAF h)
 
-  module _ (aa : getD l 0 0 ≡ 0xAA) where
-    pub size-alone : length l ≤ 1 → fronted head sound .size l ≡ NeedMore
-    size-alone h = rw (eq-eqb (getD l 0 0) 0xAA aa, le-ltb 1 (length l) h) refl
+-- there is no line but the board's, so a match on the line tells nothing
+pub board-line : (k : Line) (b : ℕ) → announcedBy (serialHead b) ≡ announcedOf k b
+board-line Board b = refl
 
-    pub size-told : 1 < length l → fronted head sound .size l ≡ told (head (getD l 1 0)) (ltb 2 (length l)) (getD l 2 0)
-    size-told h = rw (eq-eqb (getD l 0 0) 0xAA aa, lt-ltb 1 (length l) h) refl
+params-by : (v : Head) (n : ℕ) → announcedBy v ≡ Params n → v ≡ Fixed n
+params-by NotHead n e = let z : _≡_ {A = ℕ} 0 1 = cc in absurd (omega arith)
+params-by (Fixed m) n e = cc
+params-by (ByThird says) n e = let z : _≡_ {A = ℕ} 0 1 = cc in absurd (omega arith)
 
--- ---- a size once said stays
+none-by : (v : Head) → Brief v frameMost → announcedBy v ≡ NoFrame → v ≡ NotHead
+none-by NotHead w e = refl
+none-by (Fixed m) w e = let z : _≡_ {A = ℕ} 0 1 = cc in absurd (omega arith)
+none-by (ByThird says) w e = absurd w
 
-module _ (head : ℕ → Head) (sound : List ℕ → Bool) where
-  told-stays : (l more : List ℕ) (v : Head) (c : Bool) → ltb 2 (length l) ≡ c → (told v c (getD l 2 0) ≡ NeedMore → ⊥) → told v (ltb 2 (length (l ++ more))) (getD (l ++ more) 2 0) ≡ told v c (getD l 2 0)
-  told-stays l more NotHead c hc w = refl
-  told-stays l more (Fixed n) c hc w = refl
-  told-stays l more (ByThird says) false hc w = absurd (w refl)
-  told-stays l more (ByThird says) true hc w = rw (longer 2 l more hc, List·getD-append l more 0 2 (ltb-true _ _ hc)) refl
+few-by : (v : Head) (n : ℕ) → Brief v frameMost → v ≡ Fixed n → n ≤ dataMost
+few-by NotHead n w e = let z : _≡_ {A = ℕ} 0 1 = cc in absurd (omega arith)
+few-by (Fixed m) n w e = let q : m ≡ n = cc in omega arith
+few-by (ByThird says) n w e = absurd w
 
-  stays-by : (l more : List ℕ) (a b : Bool) → 0 < length l → eqb (getD l 0 0) 0xAA ≡ a → ltb 1 (length l) ≡ b
-      → (front a b (told (head (getD l 1 0)) (ltb 2 (length l)) (getD l 2 0)) ≡ NeedMore → ⊥)
-      → fronted head sound .size (l ++ more) ≡ front a b (told (head (getD l 1 0)) (ltb 2 (length l)) (getD l 2 0))
-  stays-by l more false b p ha hb w = rw (List·getD-append l more 0 0 p, ha) refl
-  stays-by l more true false p ha hb w = absurd (w refl)
-  stays-by l more true true p ha hb w =
-      rw (List·getD-append l more 0 0 p, List·getD-append l more 0 1 (ltb-true _ _ hb), ha, longer 1 l more hb)
-      (told-stays l more (head (getD l 1 0)) (ltb 2 (length l)) refl w)
+module _ (k : Line) (b : ℕ) where
+  pub params-head : (n : ℕ) → announcedOf k b ≡ Params n → lineHead k b ≡ Fixed n
+  params-head n e = params-by (lineHead k b) n e
 
-  pub fronted-steady : Steady (fronted head sound)
-  fronted-steady = record { stays = λ l more p w. stays-by l more (eqb (getD l 0 0) 0xAA) (ltb 1 (length l)) p refl refl w }
+  pub none-head : announcedOf k b ≡ NoFrame → lineHead k b ≡ NotHead
+  none-head e = none-by (lineHead k b) (line-brief k b) e
 
--- ---- heads that need no third byte
+  pub params-few : (n : ℕ) → announcedOf k b ≡ Params n → n ≤ dataMost
+  params-few n e = few-by (lineHead k b) n (line-brief k b) (params-head n e)
 
--- no frame, or one of at most so many bytes
-abbrev pub Brief : Head → ℕ → Type 0
-Brief NotHead bound = Unit {0}
-Brief (Fixed n) bound = 4 + n ≤ bound
-Brief (ByThird says) bound = ⊥
+-- ---- the board's heads by their test
 
-module _ (head : ℕ → Head) (sound : List ℕ → Bool) (bound : ℕ) (brief : (b : ℕ) → Brief (head b) bound) where
-  says-by : (a s c : Bool) (v : Head) (t n : ℕ) → Brief v bound → front a s (told v c t) ≡ Of n → v ≡ Fixed n
-  says-by false s c v t n w e = let z : _≡_ {A = ℕ} 0 1 = cc in absurd (omega arith)
-  says-by true false c v t n w e = let z : _≡_ {A = ℕ} 0 1 = cc in absurd (omega arith)
-  says-by true true c NotHead t n w e = let z : _≡_ {A = ℕ} 0 1 = cc in absurd (omega arith)
-  says-by true true c (Fixed m) t n w e = cc
-  says-by true true c (ByThird says) t n w e = absurd w
+pub no-head : (b : ℕ) → announcedBy (serialHead b) ≡ NoFrame → isHead b ≡ false
+no-head b e = by (isHead b) refl
+  where
+    by : (t : Bool) → isHead b ≡ t → t ≡ false
+    by true t = let f : Params (b % 16) ≡ NoFrame = rw t at e in let z : _≡_ {A = ℕ} 0 1 = cc in absurd (omega arith)
+    by false t = refl
 
-  -- a front that says a size has a head that says it
-  pub brief-says : (l : List ℕ) (n : ℕ) → fronted head sound .size l ≡ Of n → head (getD l 1 0) ≡ Fixed n
-  brief-says l n e = says-by (eqb (getD l 0 0) 0xAA) (ltb 1 (length l)) (ltb 2 (length l)) (head (getD l 1 0)) (getD l 2 0) n (brief (getD l 1 0)) e
-
-  most-by : (v : Head) (n : ℕ) → Brief v bound → v ≡ Fixed n → 4 + n ≤ bound
-  most-by NotHead n w e = let z : _≡_ {A = ℕ} 0 1 = cc in absurd (omega arith)
-  most-by (Fixed m) n w e = let q : m ≡ n = cc in omega arith
-  most-by (ByThird says) n w e = absurd w
-
-  early-by : (l : List ℕ) (a s c : Bool) (v : Head) (t : ℕ) → 4 ≤ bound → Brief v bound → ltb 1 (length l) ≡ s → front a s (told v c t) ≡ NeedMore → length l < bound
-  early-by l false s c v t four w q e = let z : _≡_ {A = ℕ} 0 1 = cc in absurd (omega arith)
-  early-by l true false c v t four w q e = omega (arith, ltb-false 1 (length l) q)
-  early-by l true true c NotHead t four w q e = let z : _≡_ {A = ℕ} 0 1 = cc in absurd (omega arith)
-  early-by l true true c (Fixed m) t four w q e = let z : _≡_ {A = ℕ} 0 1 = cc in absurd (omega arith)
-  early-by l true true c (ByThird says) t four w q e = absurd w
-
-  pub fronted-under : 4 ≤ bound → Under (fronted head sound) bound
-  fronted-under four = record {
-    most = λ l n e. most-by (head (getD l 1 0)) n (brief (getD l 1 0)) (brief-says l n e);
-    early = λ l e. early-by l (eqb (getD l 0 0) 0xAA) (ltb 1 (length l)) (ltb 2 (length l)) (head (getD l 1 0)) (getD l 2 0) four (brief (getD l 1 0)) refl e;
-    some = omega arith;
-  }
-
--- ---- bytes that are no AA are skipped, whatever the heads are
-
-pub noise-passed : (head : ℕ → Head) (sound : List ℕ → Bool) (l : List ℕ) (from at : ℕ) → Noise l from at → Passed (fronted head sound) l from at
-noise-passed head sound l from at p =
-    stretch-as l _ (λ i. look (fronted head sound) (drop i l) ≡ Skip)
-    (λ i e. look-headless (fronted head sound) (drop i l) (size-other head sound (drop i l) (λ q. e (sym (getD-drop i l 0 0 ∙ rw add-zero refl) ∙ q)))) from at p
-
--- ---- the last byte of a candidate
-
-pub closed-is : (n : ℕ) (l : List ℕ) → 4 + n ≤ length l → endsIn85 (take (4 + n) l) ≡ eqb (getD l (3 + n) 0) 0x85
-closed-is n l p =
-    let e : 4 + n - 1 ≡ 3 + n = omega arith in
-    rw (length-take-le (4 + n) l p, e, getD-take (4 + n) l (3 + n) 0 (omega arith)) refl
+pub some-head : (b k : ℕ) → announcedBy (serialHead b) ≡ Params k → (isHead b ≡ true) × (b % 16 ≡ k)
+some-head b k e = by (isHead b) refl
+  where
+    by : (t : Bool) → isHead b ≡ t → (t ≡ true) × (b % 16 ≡ k)
+    by true t = let f : Params (b % 16) ≡ Params k = rw t at e in (refl, cc)
+    by false t = let f : NoFrame ≡ Params k = rw t at e in let z : _≡_ {A = ℕ} 0 1 = cc in absurd (omega arith)

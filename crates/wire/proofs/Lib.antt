@@ -1,10 +1,9 @@
 pub mod NumberLaws
 pub mod CutLaws
 pub mod Stretches
-pub mod HeadLaws
 pub mod SerialLaws
+pub mod HeadLaws
 pub mod ReaderLaws
-pub mod LineLaws
 pub mod PlacedLaws
 pub mod RunLaws
 pub mod AlongLaws

@@ -13,11 +13,11 @@ use borrow.Author.Tests.{lt-ltb, le-leb, eq-eqb, ne-eqb}
 use Rattle.wire.specs.declared.Size.the-variants.{Of}
 use Rattle.wire.specs.Sizes.{dataMost, sixValues}
 use Rattle.wire.specs.Frames.{Take, look, Whole, Piece, Cut, cut, Placed, placedFrom}
-use Rattle.wire.specs.Heads.{told, endsIn85}
+use Rattle.wire.specs.Serial.{told, endsIn85}
 use Rattle.wire.specs.Reader.{isReply, isLong, readerHead, reader, Entry, statusIn, entryOf, entriesOf}
 use Rattle.wire.specs.Replies.{Reply, replyBytes}
 use Rattle.wire.proofs.CutLaws.{look-frame, cut-nil, cut-take}
-use Rattle.wire.proofs.HeadLaws.{size-told, closed-is}
+use Rattle.wire.proofs.SerialLaws.{size-told, closed-is}
 use Rattle.wire.proofs.ReaderLaws.{third-long, third-measuring, reply-said}
 use Rattle.wire.proofs.PlacedLaws.{placed-nil, placed-take}
 use Rattle.wire.proofs.EntryLaws.{entries-none, entries-cons}
@@ -97,8 +97,7 @@ spoken-cut (f ∷ fs) r =
     let more : List ℕ = allBytes fs in
     let e = cut-take reader (length (f .body)) (spokenBytes f ++ more) (look-spoken f more (r .0)) in
     let d = left-part f more in
-    let ih = spoken-cut fs (r .1) in
-    (
+    let ih = spoken-cut fs (r .1) in (
       ap (λ (c : Cut). c .skipped) e ∙ ap (λ (x : List ℕ). cut reader x .skipped) d ∙ ih .0,
       ap (λ (c : Cut). c .waiting) e ∙ ap (λ (x : List ℕ). cut reader x .waiting) d ∙ ih .1,
     )

@@ -3,10 +3,9 @@ pub mod Numbers
 pub mod Ranges
 pub mod Zeros
 pub mod Frames
-pub mod Heads
 pub mod Serial
 pub mod Reader
-pub mod Lines
 pub mod Replies
 pub mod Run
 pub mod HuntRows
+pub mod Heads

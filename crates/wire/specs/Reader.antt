@@ -8,8 +8,7 @@ use Rattle.wire.specs.declared.Size.{Size}
 use Rattle.wire.specs.declared.Size.the-variants.{NoHead, Of}
 use Rattle.wire.specs.Sizes.{dataMost, sixValues}
 use Rattle.wire.specs.Frames.{Heads, Placed}
-use Rattle.wire.specs.Heads.{Head, NotHead, Fixed, ByThird, fronted, endsIn85}
-use Rattle.wire.specs.Serial.{headOf, numberOf}
+use Rattle.wire.specs.Serial.{Head, NotHead, Fixed, ByThird, fronted, endsIn85, headOf, numberOf}
 
 -- "replies of both kinds (heads 5n and 6n)"
 abbrev pub isReply : ℕ → Bool

@@ -8,10 +8,15 @@ pub enum Range {
     Small,
 }
 
-// Whose heads a stream is hunted for: those that a board takes, or those of what boards say.
+// Whose heads a stream is hunted for.
 pub enum Line {
     Board,
-    Reader,
+}
+
+// What the byte behind an AA announces: a frame with so many parameters, or none.
+pub enum Announced {
+    Params(usize),
+    NoFrame,
 }
 
 // What the front of a stream says of a frame's size: none begins here, more bytes are needed to say, 4 + n bytes.

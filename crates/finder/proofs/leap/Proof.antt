@@ -1,6 +1,6 @@
 -- `leap`: none of the bytes that are leapt over is AA.
 use native.Mathlib.Omega.{arith}
-use Rattle.wire.specs.Heads.{Noise}
+use Rattle.wire.specs.Serial.{Noise}
 use Rattle.wire.proofs.Stretches.{stretch-none}
 use Rattle.finder.proofs.FinderLaws.{noise-sixteen}
 use borrow.Author.Tests.{not-false}

@@ -1,6 +1,6 @@
 -- `next_aa`: the scan stops at the next AA or at the end.
 use native.Mathlib.Omega.{arith}
-use Rattle.wire.specs.Heads.{Noise}
+use Rattle.wire.specs.Serial.{Noise}
 use Rattle.wire.proofs.Stretches.{stretch-none, stretch-one}
 use Prim.Native.Nat.{_-_, _≤_}
 use mathlib.Core.Logic.{inl, inr}

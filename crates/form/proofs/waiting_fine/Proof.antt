@@ -1,10 +1,11 @@
 -- `waiting_fine`: the tests of the first two bytes and of the length are what the hunt leaves waiting.
-use Prim.Native.Nat.{_+_, _%_}
-use mathlib.Core.Path.{ap, _∙_}
-use mathlib.Core.Bool.{Bool, _&&_}
+use native.Mathlib.Omega.{arith}
+use mathlib.Core.Path.{sym, _∙_}
+use Prim.Native.Nat.{_+_}
 use lib.ListN.{getD}
-use lib.Dec.{ltb}
-use Rattle.form.proofs.Pending.{none, not-aa, one, head}
+use Rattle.wire.proofs.HeadLaws.{params-few}
+use Rattle.wire.specs.declared.Line.the-variants.{Board}
+use Rattle.form.proofs.Pending.{none, not-aa, one, headless, headed}
 use borrow.Author.Needs.{needs}
 use Rattle.form.proofs.waiting_fine.Statement.{statement}
 use Rattle.form.proofs.waiting_fine.Tie as tie
@@ -21,27 +22,35 @@ returns-2 c = let z = c .before .before .before .before in not-aa (z .args .s .n
 returns-3 : tie.Need-returns-3
 returns-3 c = let z = c .before .before .before .before .before in one (z .args .s .now) (z .args .at) (z .args .n) (z .pre) (c .before .before .before .if1 .left) (c .before .if2 .left) (c .if3 .taken)
 
-add-b : tie.Need-add-b
-add-b c = search needs
+add-announced-by : tie.Need-add-announced-by
+add-announced-by c = search needs
 
-shared-slice-read-b : tie.Need-shared-slice-read-b
-shared-slice-read-b c = search needs
+shared-slice-read-announced-by : tie.Need-shared-slice-read-announced-by
+shared-slice-read-announced-by c = search needs
 
-is-head-requires : tie.Need-is-head-requires
-is-head-requires c κs = search needs
+announced-by-requires : tie.Need-announced-by-requires
+announced-by-requires c κs = search needs
 
-cast-result : tie.Need-cast-result
-cast-result c = search needs
+enum-known-k : tie.Need-enum-known-k
+enum-known-k c = search needs
 
-add-result : tie.Need-add-result
-add-result c = search needs
+enum-told : tie.Need-enum-told
+enum-told c = search needs
 
 returns-4 : tie.Need-returns-4
 returns-4 c =
-    let e = c .before .before in
-    let z = e .before .before .before .before .before .args in
-    ap (λ (t : Bool). t && ltb (z .n) (4 + getD (z .s .now) (z .at + 1) 0 % 16)) (c .is-head .ensures)
-    ∙ head (z .s .now) (z .at) (z .n) (e .before .before .before .before .before .pre) (e .before .before .before .if1 .left) (e .before .if2 .left) (e .if3 .left)
+    let z = c .before .before .before .before .before .before .before .before .before in
+    headless (z .args .s .now) (z .args .at) (z .args .n) (z .pre) (c .before .before .before .before .before .before .before .if1 .left) (c .before .before .before .before .before .if2 .left) (c .before .before .before .before .if3 .left) (sym (c .before .before .announced-by .ensures) ∙ c .enum-told .given .1)
+
+add-result : tie.Need-add-result
+add-result c =
+    let z = c .before .before .before .before .before .before .before .before .before .before in
+    omega (arith, params-few Board (getD (z .args .s .now) (z .args .at + 1) 0) (c .before .k .given .0 .0) (sym (c .before .before .before .announced-by .ensures) ∙ c .before .k .given .1))
+
+returns-5 : tie.Need-returns-5
+returns-5 c =
+    let z = c .before .before .before .before .before .before .before .before .before .before in
+    headed (z .args .s .now) (z .args .at) (z .args .n) (z .pre) (c .before .before .before .before .before .before .before .before .if1 .left) (c .before .before .before .before .before .before .if2 .left) (c .before .before .before .before .before .if3 .left) _ (sym (c .before .before .before .announced-by .ensures) ∙ c .before .k .given .1)
 
 pub waiting-fine-spec : {M : Type 1} → statement M
 waiting-fine-spec =
@@ -51,9 +60,11 @@ waiting-fine-spec =
     shared-slice-read-if2
     returns-2
     returns-3
-    add-b
-    shared-slice-read-b
-    is-head-requires
-    cast-result
+    add-announced-by
+    shared-slice-read-announced-by
+    announced-by-requires
+    enum-known-k
+    enum-told
+    returns-4
     add-result
-    returns-4)
+    returns-5)

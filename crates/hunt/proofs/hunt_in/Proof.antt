@@ -15,8 +15,8 @@ use mathlib.Core.List.{List}
 use lib.ListN.{length, drop}
 use Rattle.wire.specs.Sizes.{streamMost}
 use Rattle.wire.specs.Frames.{Heads, look, Take}
-use Rattle.wire.specs.Lines.{headsOf}
-use Rattle.wire.proofs.LineLaws.{huntable}
+use Rattle.wire.specs.Serial.{headsOf}
+use Rattle.wire.proofs.SerialLaws.{huntable}
 use Rattle.finder.specs.declared.Seen.the-variants.{Frame, Torn}
 use Rattle.hunt.proofs.hunt_in.Statement.{statement}
 use Rattle.hunt.proofs.hunt_in.Tie as tie
@@ -129,9 +129,9 @@ carry-requires c κs =
     let e = frame-here f _ (c .before .before .before .before .seen .given .1) in
     let on = going-here f in
     let sound = going-sound (heads f) (stream f) (z .args .out .now) (z .args .start) (recordOf (z .args .rec .now)) _ _ (l .wrote) (l .rec) (l .out) on in
-    let whole = going-frame (heads f) (stream f) (z .args .out .now) (z .args .start) (recordOf (z .args .rec .now)) _ _ (l .wrote) (l .rec) (l .out) on (z .pre .1 .1 .1) _ e (huntable (z .args .line) (z .pre .0 .0)) (λ i. omega (arith, f .before .before .before .before .shared-slice-known .given i)) in
+    let whole = going-frame (heads f) (stream f) (z .args .out .now) (z .args .start) (recordOf (z .args .rec .now)) _ _ (l .wrote) (l .rec) (l .out) on (z .pre .1 .1 .1) _ e (huntable (z .args .line)) (λ i. omega (arith, f .before .before .before .before .shared-slice-known .given i)) in
     let room = going-room (heads f) (stream f) (z .args .out .now) (z .args .start) (recordOf (z .args .rec .now)) _ _ (l .wrote) (l .rec) (l .out) on (z .pre .1 .1 .1) _ e in
-    (z .pre .0 .1, (sound, (whole, room)))
+    (z .pre .0, (sound, (whole, room)))
 
 -- behind the command that was carried out
 module _ (c : tie.After-slice-known4 Inv-hunt μ-hunt) where

@@ -3,8 +3,8 @@ use native.Mathlib.Omega.{arith}
 use mathlib.Core.Path.{refl}
 use Rattle.record.proofs.InPlaceLaws.{here-pending}
 use Rattle.hunt.proofs.JoinLaws.{roomed, rests-kept, rests-short, rests}
-use Rattle.wire.specs.Lines.{headsOf}
-use Rattle.wire.proofs.LineLaws.{huntable}
+use Rattle.wire.specs.Serial.{headsOf}
+use Rattle.wire.proofs.SerialLaws.{huntable}
 use Rattle.record.specs.Layout.{pendingRoom, atPendingLength}
 use borrow.Author.Needs.{needs}
 use Rattle.hunt.proofs.hunt_rest.Statement.{statement}
@@ -28,7 +28,7 @@ set-pending-requires : tie.Need-set-pending-requires
 set-pending-requires c κs =
     let f = c .before .before .before .before .before .before in
     let z = f .before .before .before .before .before .before .args in
-    roomed _ _ (rests-kept (headsOf (z .line)) (z .rec .now) (z .s .now) (z .out .now) (z .start) (f .hunt-in .result) (f .hunt-in .last .1 .1 .0) (f .hunt-in .last .1 .1 .1 .1 .1 .0) (f .hunt-in .ensures), rests-short (headsOf (z .line)) (z .rec .now) (z .s .now) (z .out .now) (z .start) (f .hunt-in .result) (f .hunt-in .last .1 .1 .0) (f .hunt-in .last .1 .1 .1 .1 .1 .0) (f .hunt-in .ensures) (huntable (z .line) (f .before .before .before .before .before .before .pre .0 .0)))
+    roomed _ _ (rests-kept (headsOf (z .line)) (z .rec .now) (z .s .now) (z .out .now) (z .start) (f .hunt-in .result) (f .hunt-in .last .1 .1 .0) (f .hunt-in .last .1 .1 .1 .1 .1 .0) (f .hunt-in .ensures), rests-short (headsOf (z .line)) (z .rec .now) (z .s .now) (z .out .now) (z .start) (f .hunt-in .result) (f .hunt-in .last .1 .1 .0) (f .hunt-in .last .1 .1 .1 .1 .1 .0) (f .hunt-in .ensures) (huntable (z .line)))
 
 same-length : tie.Need-same-length
 same-length c = search needs

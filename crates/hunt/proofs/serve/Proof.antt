@@ -1,6 +1,6 @@
 -- `serve`: with no pending bytes the stream is the input; else the hunt begins in them.
 use native.Mathlib.Omega.{arith}
-use mathlib.Core.Path.{_≡_, refl, sym, _∙_}
+use mathlib.Core.Path.{_≡_, sym, _∙_}
 use mathlib.Core.List.{List, []}
 use Rattle.record.specs.Layout.{recordOf}
 use Rattle.record.proofs.InPlaceLaws.{holds-long}
@@ -28,7 +28,7 @@ module _ (t : tie.Then1) where
 hunt-rest-requires : tie.Need-hunt-rest-requires
 hunt-rest-requires c κs =
     let z = start (c .before .before) in
-    ((refl, z .pre .0), (z .pre .1 .0, (omega (arith, z .pre .1 .1 .0), omega (arith, z .pre .1 .1 .1))))
+    (z .pre .0, (z .pre .1 .0, (omega (arith, z .pre .1 .1 .0), omega (arith, z .pre .1 .1 .1))))
 
 same-length : tie.Need-same-length
 same-length c = search needs

@@ -112,7 +112,7 @@ slice-aggregate-hunt-in c = sym (long (c .before .before .before))
 hunt-in-requires : tie.Need-hunt-in-requires
 hunt-in-requires c κs =
     let j = c .before .before .before .before in
-    ((refl, start j .pre .0), (sound j, ((omega (arith, long j, sum j), omega (arith, long j, sum j, few j)), omega (arith, long j, sum j, held-is j, start j .pre .1 .1 .1 .1))))
+    (start j .pre .0, (sound j, ((omega (arith, long j, sum j), omega (arith, long j, sum j, few j)), omega (arith, long j, sum j, held-is j, start j .pre .1 .1 .1 .1))))
 
 sub-set-pending : tie.Need-sub-set-pending
 sub-set-pending c = within (c .before .before .before .before .before .before)
@@ -151,7 +151,7 @@ hunt-rest-requires : tie.Need-hunt-rest-requires
 hunt-rest-requires c κs =
     let f = c .before .before .before .before .before .before .before .before in
     let j = f .before .before .before .before .before in
-    ((refl, start j .pre .0), (going-sound _ _ _ _ _ _ _ _ _ _ (f .hunt-in .ensures .going), (omega (arith, start j .pre .1 .1 .1 .0, rest-long (input j) (at f - held j)), fits f (omega (arith, c .before .before .before .if1 .left)))))
+    (start j .pre .0, (going-sound _ _ _ _ _ _ _ _ _ _ (f .hunt-in .ensures .going), (omega (arith, start j .pre .1 .1 .1 .0, rest-long (input j) (at f - held j)), fits f (omega (arith, c .before .before .before .if1 .left)))))
 
 add-t35 : tie.Need-add-t35
 add-t35 c =

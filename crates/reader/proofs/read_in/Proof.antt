@@ -1,19 +1,19 @@
 -- `read_in`: each turn of the loop writes one entry or skips, up to the end or to what waits.
 use native.Mathlib.Omega.{arith}
 use borrow.Author.Needs.{needs}
-use Prim.Native.Nat.{ℕ, _+_, _-_, _≤_}
-use mathlib.Core.Path.{_≡_, sym, subst}
-use mathlib.Core.Logic.{inl, ⊎-elim}
+use Prim.Native.Nat.{ℕ, _+_, _-_, _/_, _≤_, _<_}
+use mathlib.Core.Path.{_≡_, sym, _∙_}
+use mathlib.Core.Logic.{inl, inr, ⊎-elim}
 use mathlib.Core.List.{List}
-use lib.ListN.{length, drop}
-use Rattle.wire.specs.Sizes.{captureMost}
-use Rattle.wire.specs.Frames.{look, Take}
+use lib.ListN.{length, getD, drop}
+use Rattle.wire.specs.Sizes.{longMost}
+use Rattle.wire.specs.declared.Size.the-variants.{Of}
 use Rattle.wire.specs.Reader.{reader}
-use Rattle.wire.proofs.AlongLaws.{found-room}
-use Rattle.finder.specs.declared.Seen.the-variants.{Frame, Torn}
-use Rattle.finder.proofs.FinderLaws.{shown-frame, shown-torn, shown-nothing}
+use Rattle.wire.proofs.CutLaws.{look-unsaid}
+use Rattle.wire.proofs.ReaderLaws.{read-few, read-waits, read-frame, read-noise}
+use Rattle.finder.proofs.FinderLaws.{reaches-on}
 use Rattle.reader.specs.Progress.{Reads, ReadsAll}
-use Rattle.reader.proofs.ReadLaws.{reads-start, reads-pass, reads-tear, reads-take, reads-room, reads-long, reads-end}
+use Rattle.reader.proofs.ReadLaws.{reads-start, reads-pass, reads-skip, reads-torn, reads-frame, reads-room, reads-long, reads-end}
 use Rattle.reader.proofs.read_in.Statement.{statement}
 use Rattle.reader.proofs.read_in.Tie as tie
 
@@ -28,136 +28,166 @@ module _ (l : tie.At-read Inv-read μ-read) where
   abbrev start : tie.Start Inv-read μ-read
   start = l .before .before .before
 
-  abbrev stream : List ℕ
-  stream = start .args .s .now
+  abbrev capture : List ℕ
+  capture = start .args .s .now
 
   abbrev before : List ℕ
   before = start .args .list .now
 
-  list-kept : length (l .read .list) ≡ length before
-  list-kept = reads-long stream before (l .read .at) (l .read .entries) (l .read .framed) (l .read .list) (l .read .inv) (start .pre .1)
-
--- where the finder stopped
-module _ (f : tie.After-find Inv-read μ-read) where
-  abbrev turn : tie.At-read Inv-read μ-read
-  turn = f .before .before
-
   abbrev here : ℕ
-  here = f .find .result .at
+  here = l .read .at
 
-  reads-here : Reads (stream turn) (before turn) here (turn .read .entries) (turn .read .framed) (turn .read .list)
-  reads-here = reads-pass (stream turn) (before turn) (turn .read .at) (turn .read .entries) (turn .read .framed) (turn .read .list) (turn .read .inv) here (f .find .ensures .passed)
+  room : length capture / 4 ≤ length before / 4
+  room = start .pre .1
 
-  frame-here : (n : ℕ) → f .find .result .seen ≡ Frame n → look reader (drop here (stream turn)) ≡ Take n
-  frame-here n told = shown-frame reader (stream turn) (turn .read .at) (length (stream turn)) (f .find .result) (f .find .ensures) n told
+-- at an AA
+module _ (f : tie.After-size-at Inv-read μ-read) where
+  abbrev turn : tie.At-read Inv-read μ-read
+  turn = f .before .before .before .before
 
-  room-here : (n : ℕ) → f .find .result .seen ≡ Frame n → here + 4 + n ≤ length (stream turn)
-  room-here n told = found-room reader (stream turn) here n (frame-here n told)
+  aa : getD (capture turn) (here turn) 0 ≡ 0xAA
+  aa = f .before .if1 .left
 
-  torn-here : f .find .result .seen ≡ Torn → Reads (stream turn) (before turn) (here + 1) (turn .read .entries) (turn .read .framed) (turn .read .list)
-  torn-here told =
-      reads-tear (stream turn) (before turn) here (turn .read .entries) (turn .read .framed) (turn .read .list) reads-here
-      (shown-torn reader (stream turn) (turn .read .at) (length (stream turn)) (f .find .result) (f .find .ensures) told)
+  inside : here turn < length (capture turn)
+  inside = f .before .before .before .read-test .taken
+
+-- at a candidate
+module _ (k : tie.After-known-told Inv-read μ-read) where
+  abbrev at-aa : tie.After-size-at Inv-read μ-read
+  at-aa = k .before .before .before
+
+  abbrev count : ℕ
+  count = k .before .n .given .0 .0
+
+  said : reader .size (drop (here (turn at-aa)) (capture (turn at-aa))) ≡ Of count
+  said = sym (at-aa .size-at .ensures) ∙ k .before .n .given .1
+
+  short : count ≤ longMost
+  short = read-few (capture (turn at-aa)) (here (turn at-aa)) count (λ i. omega (arith, turn at-aa .before .before .shared-slice-known .given i)) said
 
 -- behind the entry that was written
 module _ (c : tie.After-slice-known2 Inv-read μ-read) where
-  abbrev found : tie.After-find Inv-read μ-read
+  abbrev found : tie.After-known-told Inv-read μ-read
   found = c .before .before .before .before .before .before .before
 
-  abbrev count : ℕ
-  count = c .before .before .before .before .before .seen .given .0 .0
+  whole : here (turn (at-aa found)) + 3 + count found < length (capture (turn (at-aa found)))
+  whole = c .before .before .before .before .before .before .if2 .left
 
-  told : found .find .result .seen ≡ Frame count
-  told = c .before .before .before .before .before .seen .given .1
-
-  short : here found + 4 + count ≤ captureMost
-  short = omega (arith, room-here found count told, start (turn found) .pre .0)
-
--- behind the loop
-abbrev Left : (l : tie.At-read Inv-read μ-read) → ℕ → Type 0
-Left l at =
-    Reads (stream l) (before l) at (l .read .entries) (l .read .framed) (l .read .list)
-    × ReadsAll (stream l) (before l) (record { entries = l .read .entries; skipped = at - l .read .framed; unread = length (stream l) - at }) (l .read .list)
-
-left : (w : tie.Left-read Inv-read μ-read) → Left (w .before) (w .read-test .at)
+-- behind the loop: the end of the capture, a front that does not say its size, a candidate that is not all there
+left : (w : tie.Left-read Inv-read μ-read) → let l = w .before in ReadsAll (capture l) (before l) (record { entries = l .read .entries; skipped = here l - l .read .framed; unread = length (capture l) - here l }) (l .read .list)
 left w =
     let l = w .before in
-    ⊎-elim
-    (λ q. subst (Left l) (sym (q .1)) (l .read .inv, reads-end (stream l) (before l) (l .read .at) (l .read .entries) (l .read .framed) (l .read .list) (l .read .inv) (inl (q .0 .left))))
-    (λ q.
-    let f : tie.After-find Inv-read μ-read = record { before = record { before = l; read-test = q .0 }; find = q .1 } in
-    subst (Left l) (sym (q .4)) (reads-here f, reads-end (stream l) (before l) (here f) (l .read .entries) (l .read .framed) (l .read .list) (reads-here f) (shown-nothing reader (stream l) (l .read .at) (length (stream l)) (f .find .result) (f .find .ensures) (q .3 .given .1))))
-    (w .read-test .came)
+    reads-end (capture l) (before l) (here l) (l .read .entries) (l .read .framed) (l .read .list) (l .read .inv)
+    (⊎-elim (λ q. inl (q .left)) (λ v. inr (⊎-elim (λ q. look-unsaid reader _ (sym (q .3 .ensures) ∙ q .5 .given .1)) (λ q.
+    let f : tie.After-size-at Inv-read μ-read = record { before = record { before = record { before = record { before = l; read-test = q .0 }; shared-slice-known2 = q .1 }; if1 = q .2 }; size-at = q .3 } in
+    let k : tie.After-known-told Inv-read μ-read = record { before = record { before = record { before = f; match = q .4 }; n = q .5 }; known-told = q .6 } in
+    read-waits (capture l) (here l) (count k) (said k) (inside f) (q .7 .taken)) v)) (w .read-test .came))
 
 read-holds : tie.Need-read-holds Inv-read μ-read
 read-holds c = let z = c .before .before .args in reads-start (z .s .now) (z .list .now)
 
-find-requires : tie.Need-find-requires Inv-read μ-read
-find-requires c κs = (omega arith, omega arith, omega arith)
+shared-slice-read-if1 : tie.Need-shared-slice-read-if1 Inv-read μ-read
+shared-slice-read-if1 c = omega arith
 
-enum-known-seen : tie.Need-enum-known-seen Inv-read μ-read
-enum-known-seen c = search needs
-
-put-entry-requires : tie.Need-put-entry-requires Inv-read μ-read
-put-entry-requires c κs =
-    let f = c .before .before .before .before in
-    let t = turn f in
-    let e = frame-here f _ (c .before .before .seen .given .1) in
-    (
-      reads-room (stream t) (before t) (here f) (t .read .entries) (t .read .framed) (t .read .list) (reads-here f) (start t .pre .1) _ e,
-      (room-here f _ (c .before .before .seen .given .1), start t .pre .0),
-    )
-
-add-entries : tie.Need-add-entries Inv-read μ-read
-add-entries c = omega (arith, short c, reads-here (found c) .fours, reads-here (found c) .few)
-
-add-at : tie.Need-add-at Inv-read μ-read
-add-at c = omega (arith, short c)
-
-add-at-2 : tie.Need-add-at-2 Inv-read μ-read
-add-at-2 c = omega (arith, short c)
-
-add-framed : tie.Need-add-framed Inv-read μ-read
-add-framed c = omega (arith, short c, reads-here (found c) .few)
-
-add-framed-2 : tie.Need-add-framed-2 Inv-read μ-read
-add-framed-2 c = omega (arith, short c, reads-here (found c) .few)
+next-aa-requires : tie.Need-next-aa-requires Inv-read μ-read
+next-aa-requires c κs = omega arith
 
 read-less : tie.Need-read-less Inv-read μ-read
-read-less c = omega (arith, room-here (found c) (count c) (told c), found c .find .ensures .passed .after)
+read-less c =
+    let l = c .before .before .before .before in
+    omega (arith, c .next-aa .ensures .upTo, reaches-on (capture l) (here l) (length (capture l)) (c .next-aa .result) (c .next-aa .ensures) (c .before .before .before .read-test .taken) (c .before .if1 .taken))
 
 read-again : tie.Need-read-again Inv-read μ-read
 read-again c =
-    let f = found c in
-    let t = turn f in
-    reads-take (stream t) (before t) (here f) (t .read .entries) (t .read .framed) (t .read .list) (reads-here f) (start t .pre .1) (count c) (frame-here f (count c) (told c)) _ (c .before .before .put-entry .ensures)
+    let l = c .before .before .before .before in
+    reads-pass (capture l) (before l) (here l) (l .read .entries) (l .read .framed) (l .read .list) (l .read .inv) (c .next-aa .result) (read-noise (capture l) (here l) (c .next-aa .result) (c .next-aa .ensures .noise))
+
+size-at-requires : tie.Need-size-at-requires Inv-read μ-read
+size-at-requires c κs = (omega arith, c .if1 .left)
 
 enum-told : tie.Need-enum-told Inv-read μ-read
 enum-told c = search needs
 
-add-at-3 : tie.Need-add-at-3 Inv-read μ-read
-add-at-3 c = omega (arith, c .before .before .find .ensures .passed .inside)
+add-at : tie.Need-add-at Inv-read μ-read
+add-at c = omega arith
 
 read-less-2 : tie.Need-read-less-2 Inv-read μ-read
-read-less-2 c = omega (arith, c .before .before .find .ensures .passed .after, torn-here (c .before .before) (c .enum-told .given .1) .within)
+read-less-2 c = omega (arith, inside (c .before .before))
 
 read-again-2 : tie.Need-read-again-2 Inv-read μ-read
-read-again-2 c = torn-here (c .before .before) (c .enum-told .given .1)
+read-again-2 c =
+    let f = c .before .before in
+    let l = turn f in
+    reads-skip (capture l) (before l) (here l) (l .read .entries) (l .read .framed) (l .read .list) (l .read .inv) (inside f) (sym (f .size-at .ensures) ∙ c .enum-told .given .1)
 
 enum-told-2 : tie.Need-enum-told-2 Inv-read μ-read
 enum-told-2 c = search needs
 
-sub-t16 : tie.Need-sub-t16 Inv-read μ-read
-sub-t16 c = left (c .before) .0 .few
+enum-known-n : tie.Need-enum-known-n Inv-read μ-read
+enum-known-n c = search needs
 
-sub-t17 : tie.Need-sub-t17 Inv-read μ-read
-sub-t17 c = left (c .before) .0 .within
+add-last : tie.Need-add-last Inv-read μ-read
+add-last c = omega (arith, inside (at-aa c))
+
+add-last-2 : tie.Need-add-last-2 Inv-read μ-read
+add-last-2 c = omega (arith, inside (at-aa c), short c)
+
+shared-slice-read-if3 : tie.Need-shared-slice-read-if3 Inv-read μ-read
+shared-slice-read-if3 c = omega arith
+
+add-at-2 : tie.Need-add-at-2 Inv-read μ-read
+add-at-2 c = omega arith
+
+read-less-3 : tie.Need-read-less-3 Inv-read μ-read
+read-less-3 c = omega (arith, c .before .before .if2 .left)
+
+read-again-3 : tie.Need-read-again-3 Inv-read μ-read
+read-again-3 c =
+    let k = c .before .before .before in
+    let l = turn (at-aa k) in
+    reads-torn (capture l) (before l) (here l) (l .read .entries) (l .read .framed) (l .read .list) (l .read .inv) (aa (at-aa k)) (count k) (said k) (c .before .before .if2 .left) (c .if3 .taken)
+
+put-entry-requires : tie.Need-put-entry-requires Inv-read μ-read
+put-entry-requires c κs =
+    let k = c .before .before .before .before in
+    let l = turn (at-aa k) in
+    let h = c .before .before .before .if2 .left in (
+      reads-room (capture l) (before l) (here l) (l .read .entries) (l .read .framed) (l .read .list) (l .read .inv) (room l) (count k) (read-frame (capture l) (here l) (count k) (said k) h (c .before .if3 .left)),
+      (omega (arith, h), start l .pre .0),
+    )
+
+add-entries : tie.Need-add-entries Inv-read μ-read
+add-entries c = omega (arith, whole c, turn (at-aa (found c)) .read .inv .fours, turn (at-aa (found c)) .read .inv .few)
+
+add-framed : tie.Need-add-framed Inv-read μ-read
+add-framed c = omega (arith, whole c, turn (at-aa (found c)) .read .inv .few)
+
+add-framed-2 : tie.Need-add-framed-2 Inv-read μ-read
+add-framed-2 c = omega (arith, whole c, turn (at-aa (found c)) .read .inv .few)
+
+add-at-3 : tie.Need-add-at-3 Inv-read μ-read
+add-at-3 c = omega (arith, whole c)
+
+read-less-4 : tie.Need-read-less-4 Inv-read μ-read
+read-less-4 c = omega (arith, whole c)
+
+read-again-4 : tie.Need-read-again-4 Inv-read μ-read
+read-again-4 c =
+    let k = found c in
+    let l = turn (at-aa k) in
+    reads-frame (capture l) (before l) (here l) (l .read .entries) (l .read .framed) (l .read .list) (l .read .inv) (room l) (count k) (said k) (whole c) (c .before .before .before .before .if3 .left) _ (c .before .before .put-entry .ensures)
+
+sub-t20 : tie.Need-sub-t20 Inv-read μ-read
+sub-t20 c = c .before .read .inv .few
+
+sub-t21 : tie.Need-sub-t21 Inv-read μ-read
+sub-t21 c = c .before .read .inv .within
 
 same-length : tie.Need-same-length Inv-read μ-read
-same-length c = list-kept (c .before .before)
+same-length c = let l = c .before in reads-long (capture l) (before l) (here l) (l .read .entries) (l .read .framed) (l .read .list) (l .read .inv) (room l)
 
 returns : tie.Need-returns Inv-read μ-read
-returns c = left (c .before) .1
+returns c = left c
 
 pub read-in-spec : {M : Type 1} → statement M
 read-in-spec =
@@ -166,22 +196,31 @@ read-in-spec =
     Inv-read
     μ-read
     read-holds
-    find-requires
-    enum-known-seen
-    put-entry-requires
-    add-entries
-    add-at
-    add-at-2
-    add-framed
-    add-framed-2
+    shared-slice-read-if1
+    next-aa-requires
     read-less
     read-again
+    size-at-requires
     enum-told
-    add-at-3
+    add-at
     read-less-2
     read-again-2
     enum-told-2
-    sub-t16
-    sub-t17
+    enum-known-n
+    add-last
+    add-last-2
+    shared-slice-read-if3
+    add-at-2
+    read-less-3
+    read-again-3
+    put-entry-requires
+    add-entries
+    add-framed
+    add-framed-2
+    add-at-3
+    read-less-4
+    read-again-4
+    sub-t20
+    sub-t21
     same-length
     returns)

@@ -1,8 +1,8 @@
 -- `third_size`: a long reply has 15 data bytes more than its third byte says, 15 wants B0.
 use Rattle.wire.proofs.ReaderLaws.{third-long, third-measuring, third-other}
 use borrow.Author.Needs.{needs}
-use Rattle.buffer.proofs.heads.third_size.Statement.{statement}
-use Rattle.buffer.proofs.heads.third_size.Tie as tie
+use Rattle.reader.proofs.heads.third_size.Statement.{statement}
+use Rattle.reader.proofs.heads.third_size.Tie as tie
 
 add-t5 : tie.Need-add-t5
 add-t5 c = search needs
