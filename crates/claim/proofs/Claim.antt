@@ -9,6 +9,8 @@ use Rattle.demands.proofs.AsListed.{answers-as-listed}
 use Rattle.demands.proofs.OneTable.{one-table}
 use Rattle.demands.proofs.Boards.{wrong-shut-out, kinds-exist}
 use Rattle.demands.proofs.Examples.{starred-hold}
+use Rattle.demands.proofs.Reader.{reader-ends, reads-as-listed}
+use Rattle.demands.proofs.ReadBack.{read-back}
 use Rattle.demands.proofs.Secrecy.{compared, one-call, nothing-told, nothing-told-used-up, premise-met, premise-needed}
 
 pub claim : Claim
@@ -29,4 +31,7 @@ claim = record {
   used-up = nothing-told-used-up;
   premise-met = premise-met;
   premise-needed = premise-needed;
+  reader-ends = reader-ends;
+  reads = reads-as-listed;
+  read-back = read-back;
 }

@@ -8,6 +8,8 @@ use Rattle.demands.specs.AsListed.{AnswersAsListed}
 use Rattle.demands.specs.OneTable.{OneTable}
 use Rattle.demands.specs.Boards.{WrongShutOut, KindsExist}
 use Rattle.demands.specs.Examples.{starred, ExamplesHold}
+use Rattle.demands.specs.Reader.{ReaderEnds, ReadsAsListed}
+use Rattle.demands.specs.ReadBack.{ReadBack}
 use Rattle.demands.specs.Premise.{ComparedExactly}
 use Rattle.demands.specs.Secrecy.{OneCall, NothingTold, NothingToldUsedUp, PremiseMet, PremiseNeeded}
 
@@ -32,3 +34,7 @@ pub record Claim : Type 1 where
   pub used-up : NothingToldUsedUp
   pub premise-met : PremiseMet
   pub premise-needed : PremiseNeeded
+  -- the reader: it ends properly, reads as the page says, and reads back what a board means; it has no record, so 3 does not speak of it
+  pub reader-ends : ReaderEnds
+  pub reads : ReadsAsListed
+  pub read-back : ReadBack

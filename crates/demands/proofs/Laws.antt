@@ -62,6 +62,12 @@ module _ (c : Call) (w : Laws c) (l : c .Lent) (s : List ℕ) where
   pub ends-by : Ends (c .reasons l s) s o (c .outcome l s)
   ends-by = rw (w .chain l s) (ends Outcome refuse finished (λ (x : Outcome). x .answer .result) (λ why. refl) (w .causes l s) (c .reasons l s) (w .decides l s) refl)
 
+  -- a call that is refused has written nothing
+  pub unspoken : (c .outcome l s .answer .result ≡ 0 → ⊥) → c .outcome l s .answer .written ≡ 0
+  unspoken =
+      rw (w .chain l s)
+      (in-order Outcome refuse finished (λ z. (z .answer .result ≡ 0 → ⊥) → z .answer .written ≡ 0) (w .causes l s) (λ why h. refl) (λ n h. absurd (h refl)))
+
   none : NoReason (c .reasons l s) → None (w .causes l s)
   none n = no-reason (w .causes l s) (c .reasons l s) (w .decides l s) n
 

@@ -16,3 +16,5 @@ pub mod AsListed
 pub mod OneTable
 pub mod Boards
 pub mod Secrecy
+pub mod Reader
+pub mod ReadBack

@@ -46,7 +46,7 @@ module _ (f : Spoken) (more : List ℕ) where
   abbrev n : ℕ
   n = length (f .body)
 
-  size : length (spokenBytes f) ≡ 4 + n
+  pub size : length (spokenBytes f) ≡ 4 + n
   size = omega (arith, length-append (f .body) (0x85 ∷ []))
 
   all : 4 + n ≤ length l
@@ -77,6 +77,19 @@ module _ (f : Spoken) (more : List ℕ) where
 unfoldable pub allBytes : List Spoken → List ℕ
 allBytes [] = []
 allBytes (f ∷ fs) = spokenBytes f ++ allBytes fs
+
+pub all-none : allBytes [] ≡ []
+unfolding allBytes
+all-none = refl
+
+pub all-cons : (f : Spoken) (fs : List Spoken) → allBytes (f ∷ fs) ≡ spokenBytes f ++ allBytes fs
+unfolding allBytes
+all-cons f fs = refl
+
+pub all-append : (fs gs : List Spoken) → allBytes (fs ++ gs) ≡ allBytes fs ++ allBytes gs
+unfolding allBytes
+all-append [] gs = refl
+all-append (f ∷ fs) gs = ap (λ (x : List ℕ). spokenBytes f ++ x) (all-append fs gs) ∙ sym (append-assoc (spokenBytes f) (allBytes fs) (allBytes gs))
 
 unfoldable pub AllReadable : List Spoken → Type 0
 AllReadable [] = Unit {0}
