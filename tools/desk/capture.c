@@ -32,11 +32,10 @@ static void skip_piece(struct capture *capture, struct piece piece, size_t at, s
     report_skip(&capture->report, stretch(capture, at, at + piece.len));
 }
 
-/* Skipped bytes up to an end, and bytes known behind it, which only help to tell commands. If more are to
-   come, an open command waits for them; returns where. */
+/* With more to come an open command waits; returns where. How the bytes were cut makes no difference. */
 static size_t take_skipped(struct capture *capture, size_t at, size_t end, size_t known, bool more) {
     while (at < end) {
-        const struct piece piece = next_piece(capture->bytes + at, known - at);
+        const struct piece piece = next_piece(capture->bytes + at, (more ? end : known) - at);
         const bool open = piece.kind == PIECE_WAITING || (piece.kind == PIECE_FRAME && piece.len > end - at);
         if (open && more)
             break;
