@@ -1,5 +1,4 @@
-/* The library reads; the desk hunts in what it skipped, so that a command of the fitter is told from noise.
- */
+/* The library reads; the desk hunts in what it skipped, so that commands are told from noise. */
 #include "capture.h"
 
 #include "hunt.h"
@@ -20,7 +19,7 @@ static size_t skip_open(struct capture *capture, size_t at, size_t end, size_t k
     return len;
 }
 
-/* A frame of the board that starts in skipped bytes has a wrong end, or it were not skipped. */
+/* A frame of the board that starts in skipped bytes has a wrong end, or it had not been skipped. */
 static void skip_piece(struct capture *capture, struct piece piece, size_t at, size_t known) {
     const struct stretch front = stretch(capture, at, known);
     if (piece.kind == PIECE_FRAME) {
@@ -118,7 +117,7 @@ static int read_part(struct capture *capture) {
 
 int capture_bytes(struct capture *capture, const uint8_t *bytes, size_t len) {
     for (size_t at = 0; at < len;) {
-        const size_t room = capture->held + BOARD_CAPTURE_MOST - capture->len;
+        const size_t room = sizeof capture->bytes - capture->len;
         const size_t cut = len - at < room ? len - at : room;
         memcpy(capture->bytes + capture->len, bytes + at, cut);
         capture->len += cut;

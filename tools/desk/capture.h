@@ -5,12 +5,10 @@
 #include "board.h"
 #include "report.h"
 
-enum { HELD_MOST = FRAME_MOST - 1 };
-
 /* The front of what is still to be told: skipped bytes that may become a command, then those left unread. */
 struct capture {
     struct report report;
-    uint8_t bytes[HELD_MOST + BOARD_CAPTURE_MOST];
+    uint8_t bytes[BOARD_CAPTURE_MOST];
     size_t held, len, place;
 };
 
