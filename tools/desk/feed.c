@@ -4,7 +4,6 @@
 #include "capture.h"
 #include "content.h"
 #include "lines.h"
-#include "screen.h"
 
 #include <errno.h>
 #include <stdio.h>
