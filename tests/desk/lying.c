@@ -12,6 +12,10 @@ struct board_answer __real_board_bytes(uint8_t *record, size_t record_len, const
                                        size_t input_len, uint8_t *output, size_t output_len);
 struct board_answer __wrap_board_bytes(uint8_t *record, size_t record_len, const uint8_t *input,
                                        size_t input_len, uint8_t *output, size_t output_len);
+struct board_reading __real_board_read(const uint8_t *capture, size_t capture_len, uint32_t *list,
+                                       size_t list_len);
+struct board_reading __wrap_board_read(const uint8_t *capture, size_t capture_len, uint32_t *list,
+                                       size_t list_len);
 int __real_fsync(int file);
 int __wrap_fsync(int file);
 int __real_rename(const char *from, const char *to);
@@ -44,6 +48,35 @@ struct board_answer __wrap_board_bytes(uint8_t *record, size_t record_len, const
     if (answer.skipped > 0 && lie("skipped"))
         answer.skipped++;
     return answer;
+}
+
+/* For a capture that has one frame in it, something before it and something behind it. */
+struct board_reading __wrap_board_read(const uint8_t *capture, size_t capture_len, uint32_t *list,
+                                       size_t list_len) {
+    struct board_reading reading = __real_board_read(capture, capture_len, list, list_len);
+    if (lie("no reading"))
+        reading = (struct board_reading){BOARD_NO_ROOM, 0, 0, 0};
+    if (lie("many entries"))
+        reading.entries = (uint32_t)list_len;
+    if (lie("an entry less"))
+        reading.entries--;
+    if (lie("a head"))
+        list[BOARD_ENTRY_HEAD] = 0x60;
+    if (lie("a status of an entry"))
+        list[BOARD_ENTRY_STATUS] = 0x40;
+    if (lie("a place"))
+        list[BOARD_ENTRY_PLACE]++;
+    if (lie("a far place"))
+        list[BOARD_ENTRY_PLACE] = UINT32_MAX;
+    if (lie("a count"))
+        list[BOARD_ENTRY_COUNT]++;
+    if (lie("bytes skipped"))
+        reading.skipped++;
+    if (lie("bytes unread"))
+        reading.unread++;
+    if (lie("nothing unread"))
+        reading.unread = 0;
+    return reading;
 }
 
 int __wrap_fsync(int file) {

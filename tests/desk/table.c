@@ -2,6 +2,7 @@
  */
 #include "board.h"
 #include "fault.h"
+#include "hunt.h"
 #include "judge.h"
 
 #include <stdio.h>
@@ -134,11 +135,50 @@ static void every_record(void) {
         one_record(any, len, 0);
 }
 
+static struct board_reading reading(const uint8_t *said, size_t len, uint32_t *entry) {
+    uint32_t list[BOARD_ENTRY_NUMBERS * BOARD_ENTRIES(SAID_MOST)] = {0};
+    const struct board_reading answer = board_read(said, len, list, sizeof list / sizeof *list);
+    memcpy(entry, list, BOARD_ENTRY_NUMBERS * sizeof *entry);
+    return answer;
+}
+
+/* A frame of the size that the desk tells is one entry; with a byte less it waits, with a wrong end it is
+ * none. */
+static void one_said(uint8_t *said, size_t size) {
+    uint32_t entry[BOARD_ENTRY_NUMBERS];
+    const unsigned head = said[AT_HEAD], third = said[AT_STATUS];
+    said[size - 1] = FRAME_END;
+    const struct board_reading whole = reading(said, size, entry);
+    tally(whole.entries == 1 && whole.unread == 0 && entry[BOARD_ENTRY_HEAD] == head &&
+              entry[BOARD_ENTRY_PLACE] == AT_DATA && entry[BOARD_ENTRY_COUNT] == size - FRAME_AROUND,
+          "what a board says with head and third byte", head, third);
+    tally(reading(said, size - 1, entry).unread == size - 1, "what waits with head and third byte", head,
+          third);
+    said[size - 1] = 0;
+    tally(reading(said, size, entry).entries == 0, "what has a wrong end, with head and third byte", head,
+          third);
+}
+
+/* Every head and third byte: where the desk finds no front of a frame, the library skips the byte. */
+static void every_said(void) {
+    for (unsigned k = 0; k < BYTE_VALUES * BYTE_VALUES; k++) {
+        uint8_t said[SAID_MOST] = {FRAME_START, (uint8_t)(k / BYTE_VALUES), (uint8_t)k};
+        uint32_t entry[BOARD_ENTRY_NUMBERS];
+        const size_t size = said_size(said, AT_DATA);
+        if (size > 0)
+            one_said(said, size);
+        else
+            tally(reading(said, AT_DATA, entry).skipped > 0, "what starts no frame, with head and third byte",
+                  said[AT_HEAD], said[AT_STATUS]);
+    }
+}
+
 int main(void) {
     every_number();
     every_value();
     every_place();
     every_record();
+    every_said();
     printf("desk tables: %lu cases, %lu failures\n", cases, failures);
     return cases > 0 && failures == 0 ? 0 : 1;
 }

@@ -85,3 +85,14 @@ size_t fields_most(const struct field *const *fields) {
 }
 
 const char *kind_words(unsigned kind) { return kind == BT121 ? "BT121" : "amplifier"; }
+
+unsigned kind_answered(uint8_t head) {
+    switch (KIND_OF(head)) {
+    case AMPLIFIER_REPLY:
+        return AMPLIFIER;
+    case BT121_REPLY:
+        return BT121;
+    default:
+        return 0;
+    }
+}

@@ -21,6 +21,12 @@ enum {
 /* The high half of a head. */
 enum kind { AMPLIFIER = 0x90, BT121 = 0xA0 };
 
+/* What a board says: a reply of one of two kinds, or a measuring frame with a status of its own. */
+enum said { AMPLIFIER_REPLY = 0x50, BT121_REPLY = 0x60, MEASURING = 0x15, STATUS_MEASURING = 0xB0 };
+
+/* A reply whose head says 15 is long: its third byte adds to the length. */
+enum { LONG_FEWEST = PARAMETERS_MOST, LONG_MOST = LONG_FEWEST + 0xFF, SAID_MOST = FRAME_AROUND + LONG_MOST };
+
 #define KIND_OF(head) ((head)&0xF0)
 #define COUNT_OF(head) ((size_t)((head)&0x0F))
 
@@ -71,5 +77,8 @@ extern const struct status_row statuses[];
 extern const size_t statuses_count;
 
 const char *kind_words(unsigned kind);
+
+/* The kind of the commands to which a reply with this head answers; 0 if it is no reply's head. */
+unsigned kind_answered(uint8_t head);
 
 #endif

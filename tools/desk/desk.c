@@ -1,4 +1,5 @@
-/* The desk: frames typed in hex go to a board, and what it answers is told in words. */
+/* The desk: frames typed in hex go to a board, and what it answers is told in words; so is what one said. */
+#include "feed.h"
 #include "help.h"
 #include "lines.h"
 #include "page.h"
@@ -13,6 +14,8 @@ struct options {
     bool hex;
     void (*print)(void); /* NULL, or what is asked for instead of a board */
     char *text;          /* NULL if lines are to be read */
+    bool read;           /* a capture instead of lines */
+    const char *capture; /* NULL, or its file */
 };
 
 static void add_word(struct options *options, const char *word) {
@@ -45,10 +48,26 @@ static int bad_usage(const char *words, const char *option) {
     return EXIT_USAGE;
 }
 
+/* A word of a line, or read and its file. */
+static int take_word(struct options *options, const char *word) {
+    if (options->text == NULL && !options->read && strcmp(word, "read") == 0)
+        options->read = true;
+    else if (!options->read)
+        add_word(options, word);
+    else if (*word == '\0')
+        return bad_usage("a file is due behind", "read");
+    else if (options->capture != NULL)
+        return bad_usage("one file alone is due behind", "read");
+    else
+        options->capture = word;
+    return EXIT_DONE;
+}
+
 static int read_options(int count, char **words, struct options *options) {
-    for (int i = 1; i < count; i++) {
+    int status = EXIT_DONE;
+    for (int i = 1; i < count && status == EXIT_DONE; i++) {
         if (strncmp(words[i], "--", 2) != 0)
-            add_word(options, words[i]);
+            status = take_word(options, words[i]);
         else if (strcmp(words[i], "--hex") == 0)
             options->hex = true;
         else if (is_text(words[i], options))
@@ -60,7 +79,7 @@ static int read_options(int count, char **words, struct options *options) {
         else
             return bad_usage("a file is due behind", "--record");
     }
-    return EXIT_DONE;
+    return status;
 }
 
 static int run(const struct options *options) {
@@ -69,6 +88,10 @@ static int run(const struct options *options) {
         options->print();
         return EXIT_DONE;
     }
+    if (options->read && options->record != NULL)
+        return bad_usage("no record goes with", "read");
+    if (options->read)
+        return read_capture(options->capture, options->hex);
     int status = session_start(&session, options->record, options->hex);
     if (status != EXIT_DONE)
         return status;
@@ -78,7 +101,7 @@ static int run(const struct options *options) {
 }
 
 int main(int count, char **words) {
-    struct options options = {NULL, false, NULL, NULL};
+    struct options options = {.record = NULL};
     screen_start();
     int status = read_options(count, words, &options);
     if (status == EXIT_DONE)

@@ -94,8 +94,9 @@ static bool no_digit(struct line_fault *fault, struct line line, size_t at) {
         return wrong(fault, line, at, "%c is a letter, not a zero", c);
     if (c == 'l' || c == 'I')
         return wrong(fault, line, at, "%c is a letter, not a one", c);
-    if (isprint(c))
-        return wrong(fault, line, at, "%c is no hex digit; 'help' lists the words that may start a line", c);
+    fault->letter = isprint(c) != 0;
+    if (fault->letter)
+        return wrong(fault, line, at, "%c is no hex digit", c);
     return wrong(fault, line, at, "this character is no hex digit");
 }
 

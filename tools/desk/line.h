@@ -15,6 +15,7 @@ struct line {
 struct line_fault {
     size_t place;
     char words[120];
+    bool letter; /* a letter or sign that may have been meant as a word */
 };
 
 enum word { WORD_NONE, WORD_FACTORY, WORD_POWER_ON, WORD_SAMPLE, WORD_SHOW, WORD_HELP, WORD_QUIT };

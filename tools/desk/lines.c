@@ -64,14 +64,15 @@ static int take_word(struct session *session, enum word word, struct line line, 
 
 /* The answers are out before the next line is asked for. */
 static int take_line(struct session *session, struct line line, size_t number) {
-    struct line_fault fault = {0, ""};
+    struct line_fault fault = {0, "", false};
     size_t behind;
     const enum word word = line_word(line, &behind);
     const int status = word == WORD_NONE ? take_bytes(session, line, &fault)
                                          : take_word(session, word, line, behind, &fault);
     fflush(stdout);
     if (fault.place > 0)
-        fprintf(stderr, "desk: line %zu, place %zu: %s\n", number, fault.place, fault.words);
+        fprintf(stderr, "desk: line %zu, place %zu: %s%s\n", number, fault.place, fault.words,
+                fault.letter ? "; 'help' lists the words that may start a line" : "");
     return status;
 }
 
@@ -87,11 +88,9 @@ static bool goes_on(int now, bool terminal, int *status) {
     return false;
 }
 
-/* The prompt stays out of answers that go to a file. */
-static void ask(bool terminal) {
+void ask(const char *prompt) {
     FILE *to = isatty(STDOUT_FILENO) == 1 ? stdout : stderr;
-    if (terminal)
-        fputs("desk> ", to);
+    fputs(prompt, to);
     fflush(to);
 }
 
@@ -102,7 +101,7 @@ int take_input(struct session *session) {
     ssize_t len;
     int status = EXIT_DONE;
     for (size_t number = 1;; number++) {
-        ask(terminal);
+        ask(terminal ? "desk> " : "");
         len = getline(&text, &room, stdin);
         if (len < 0 ||
             !goes_on(take_line(session, (struct line){text, (size_t)len}, number), terminal, &status))

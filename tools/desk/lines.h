@@ -10,4 +10,7 @@ int take_input(struct session *session);
 /* From a text. */
 int take_text(struct session *session, const char *text);
 
+/* The prompt stays out of answers that go to a file. */
+void ask(const char *prompt);
+
 #endif

@@ -7,10 +7,9 @@
 #include <stdio.h>
 #include <string.h>
 
-int session_refused(const char *call, struct board_answer answer) {
+int session_refused(const char *call, unsigned result) {
     fflush(stdout);
-    fprintf(stderr, "desk: the %s call is refused with %u: %s\n", call, (unsigned)answer.result,
-            result_words(answer.result));
+    fprintf(stderr, "desk: the %s call is refused with %u: %s\n", call, result, result_words(result));
     return EXIT_REFUSED;
 }
 
@@ -38,7 +37,7 @@ static int start_from_file(struct session *session, const uint8_t *bytes, size_t
         return EXIT_DONE;
     }
     if (answer.result != BOARD_BAD_RECORD)
-        return session_refused("bytes", answer);
+        return session_refused("bytes", answer.result);
     if (!record_fault(bytes, len, words))
         return session_disagrees("whether the record is well formed");
     fprintf(stderr, "desk: %s is no record: %s\n", session->path, words);
@@ -47,7 +46,7 @@ static int start_from_file(struct session *session, const uint8_t *bytes, size_t
 
 static int start_from_factory(struct session *session) {
     const struct board_answer answer = board_factory(session->record, sizeof session->record);
-    return answer.result == BOARD_DONE ? session_keep(session) : session_refused("factory", answer);
+    return answer.result == BOARD_DONE ? session_keep(session) : session_refused("factory", answer.result);
 }
 
 int session_start(struct session *session, const char *path, bool hex) {
@@ -68,7 +67,7 @@ int session_start(struct session *session, const char *path, bool hex) {
 static int finish(const struct session *session, const char *call, struct board_answer answer,
                   const char *words) {
     if (answer.result != BOARD_DONE)
-        return session_refused(call, answer);
+        return session_refused(call, answer.result);
     const int kept = session_keep(session);
     if (kept == EXIT_DONE)
         tell_word(&session->teller, call, words);
@@ -99,7 +98,7 @@ int session_sample(struct session *session, const float *sample) {
     const struct board_answer answer =
         board_samples(session->record, sizeof session->record, bytes, sizeof bytes, output, sizeof output);
     if (answer.result != BOARD_DONE)
-        return session_refused("samples", answer);
+        return session_refused("samples", answer.result);
     const int kept = session_keep(session);
     if (kept == EXIT_DONE)
         tell_sample(&session->teller, bytes, output, answer.written);

@@ -26,7 +26,7 @@ int session_bytes(struct session *session, const uint8_t *bytes, size_t len);
 void session_end(const struct session *session);
 
 /* A board call was refused. */
-int session_refused(const char *call, struct board_answer answer);
+int session_refused(const char *call, unsigned result);
 
 /* The desk's hunt and tables are there for words; where the library says other things, no word is sure. */
 int session_disagrees(const char *about);

@@ -95,7 +95,7 @@ static int one_call(struct session *session, const uint8_t *bytes, size_t len) {
     const struct board_answer answer =
         board_bytes(session->record, BOARD_RECORD_SIZE, bytes, len, talk.output, sizeof talk.output);
     if (answer.result != BOARD_DONE)
-        return session_refused("bytes", answer);
+        return session_refused("bytes", answer.result);
     talk.written = answer.written;
     const int kept = session_keep(session);
     if (kept != EXIT_DONE)

@@ -37,7 +37,7 @@ void tell_reply(const struct teller *teller, const uint8_t *reply, size_t len, c
     tell_bytes(teller, reply, len, words, reply[AT_STATUS] == STATUS_DONE ? TONE_GOOD : TONE_BAD);
 }
 
-static void numbers_words(const char *before, const uint8_t *sample, char *words) {
+void numbers_words(const char *before, const uint8_t *sample, char *words) {
     strcpy(words, before);
     for (int i = 0; i < CHANNELS; i++) {
         char value[FIELD_WORDS_MOST];

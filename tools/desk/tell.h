@@ -25,6 +25,9 @@ void tell_request(const struct teller *teller, const uint8_t *frame, size_t len)
 /* Whether it is good news is told by the status. */
 void tell_reply(const struct teller *teller, const uint8_t *reply, size_t len, const char *words);
 
+/* The six floats of a reading behind other words. */
+void numbers_words(const char *before, const uint8_t *sample, char *words);
+
 /* A reading of six floats, and the measuring frame if there is one. */
 void tell_sample(const struct teller *teller, const uint8_t *sample, const uint8_t *frame, size_t len);
 

@@ -167,10 +167,14 @@ void hex_words(const uint8_t *bytes, size_t len, char *hex) {
         hex += sprintf(hex, i == 0 ? "%02X" : " %02X", bytes[i]);
 }
 
+bool takes_code(unsigned kind, uint8_t number) {
+    const struct command *command = command_named(kind, number);
+    return command != NULL && command->parameters[0] == &field_code;
+}
+
 void frame_hex(const uint8_t *frame, size_t len, char *hex) {
-    const struct command *command = command_of(frame);
     hex_words(frame, len, hex);
-    if (command == NULL || command->parameters[0] != &field_code)
+    if (!takes_code(KIND_OF(frame[AT_HEAD]), frame[AT_NUMBER]))
         return;
     for (size_t i = AT_PARAMETERS; i < len - 1; i++)
         memcpy(hex + 3 * i, "..", 2);

@@ -14,6 +14,9 @@ void request_words(const uint8_t *frame, char *words);
 void reply_words(const uint8_t *before, const uint8_t *after, const uint8_t *frame, const uint8_t *reply,
                  char *words);
 
+/* Whether the parameters of a number are a code, so that nobody reads them. */
+bool takes_code(unsigned kind, uint8_t number);
+
 /* A frame's bytes; those of a code are dots. */
 void frame_hex(const uint8_t *frame, size_t len, char *hex);
 
