@@ -157,7 +157,7 @@ module _ (l : List ℕ) where
 
 rows-read : RowsRead readRows
 unfolding readCall
-rows-read = ((refl, refl), ((refl, refl), ((refl, refl), ((refl, refl), ((refl, refl), tt)))))
+rows-read = ((refl, refl), ((refl, refl), ((refl, refl), ((refl, refl), ((refl, refl), ((refl, refl), tt))))))
 
 pub reads-as-listed : ReadsAsListed
 reads-as-listed = record { lines = lines; rows = rows-read }

@@ -23,7 +23,8 @@ fn third_size(b: u8, t: u8) -> Size
     ensures { λ r. ⌜ r ≡ told (readerHead b) true t ⌝ }
 {
     if b != 0x15 {
-        return Size::Of(t as usize + DATA_MOST);
+        let n = t as usize + DATA_MOST;
+        return Size::Of(n);
     }
     if t == 0xB0 {
         return Size::Of(SIX_VALUES);

@@ -4,8 +4,8 @@ use borrow.Author.Needs.{needs}
 use Rattle.reader.proofs.heads.third_size.Statement.{statement}
 use Rattle.reader.proofs.heads.third_size.Tie as tie
 
-add-t5 : tie.Need-add-t5
-add-t5 c = search needs
+add-n : tie.Need-add-n
+add-n c = search needs
 
 returns : tie.Need-returns
 returns c = let z = c .before in third-long (z .args .b) (z .pre) (c .if1 .taken) (z .args .t)
@@ -17,4 +17,4 @@ returns-3 : tie.Need-returns-3
 returns-3 c = let z = c .before .before in third-other (z .args .b) (c .before .if1 .left) (z .args .t) (c .if2 .left)
 
 pub third-size-spec : {M : Type 1} → statement M
-third-size-spec = tie.close (tie.spec add-t5 returns returns-2 returns-3)
+third-size-spec = tie.close (tie.spec add-n returns returns-2 returns-3)
