@@ -6,7 +6,7 @@ use Rattle.record.specs.Layout.{recordOf}
 use Rattle.record.specs.Births.{factory, poweredOn}
 use Rattle.command.specs.Hunt.{huntOf}
 use Rattle.call.specs.Outcome.{done, firstOf, inOrder}
-use Rattle.call.specs.Read.{ReadOutcome, readRefused, readCauses, afterRead, readCall}
+use Rattle.call.specs.Read.{readRefused, readCauses, afterRead, readCall}
 use Rattle.call.specs.Calls.{factoryCauses, factoryCall, powerOnCauses, powerOnCall, bytesCauses, afterBytes, bytesCall, samplesCauses, afterSample, samplesCall}
 
 pub factory-by : (s : List ℕ) → factoryCall s ≡ inOrder (factoryCauses s) s [] (done factory [] 0 [])

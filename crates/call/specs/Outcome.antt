@@ -1,4 +1,4 @@
--- What a call leaves: its answer, the record, the output buffer. Every call is a total function to such an outcome.
+-- What a call over a record leaves: its answer, the record, the output buffer. Every such call is a total function to such an outcome.
 use Prim.Native.Nat.{ℕ}
 use mathlib.Core.Path.{_≡_}
 use mathlib.Core.Bool.{Bool, true, false, cond}

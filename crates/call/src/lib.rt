@@ -51,7 +51,7 @@ pub fn ended(why: Ending) -> Answer
     }
 }
 
-// The reader's.
+// The same as an answer of the reader.
 pub fn read_ended(why: Ending) -> ReadAnswer
     ensures { λ a. ⌜ a ≡ noEntries why ⌝ }
 {

@@ -10,7 +10,7 @@ use Rattle.demands.proofs.OneTable.{one-table}
 use Rattle.demands.proofs.Boards.{wrong-shut-out, kinds-exist}
 use Rattle.demands.proofs.Examples.{starred-hold}
 use Rattle.demands.proofs.Reader.{reader-ends, reads-as-listed}
-use Rattle.demands.proofs.ReadBack.{read-back}
+use Rattle.demands.proofs.ReadBack.{read-back, something-said}
 use Rattle.demands.proofs.Secrecy.{compared, one-call, nothing-told, nothing-told-used-up, premise-met, premise-needed}
 
 pub claim : Claim
@@ -34,4 +34,5 @@ claim = record {
   reader-ends = reader-ends;
   reads = reads-as-listed;
   read-back = read-back;
+  something-said = something-said;
 }

@@ -9,7 +9,7 @@ use Rattle.demands.specs.OneTable.{OneTable}
 use Rattle.demands.specs.Boards.{WrongShutOut, KindsExist}
 use Rattle.demands.specs.Examples.{starred, ExamplesHold}
 use Rattle.demands.specs.Reader.{ReaderEnds, ReadsAsListed}
-use Rattle.demands.specs.ReadBack.{ReadBack}
+use Rattle.demands.specs.ReadBack.{ReadBack, SomethingSaid}
 use Rattle.demands.specs.Premise.{ComparedExactly}
 use Rattle.demands.specs.Secrecy.{OneCall, NothingTold, NothingToldUsedUp, PremiseMet, PremiseNeeded}
 
@@ -38,3 +38,4 @@ pub record Claim : Type 1 where
   pub reader-ends : ReaderEnds
   pub reads : ReadsAsListed
   pub read-back : ReadBack
+  pub something-said : SomethingSaid

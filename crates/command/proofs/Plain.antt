@@ -1,17 +1,16 @@
 -- Every reply of a board is of kind 5 or 6, of at most 15 bytes, and of 15 with status 0.
 use Prim.Native.Nat.{ℕ, _≤_, zero-le}
-use mathlib.Core.Path.{_≡_, refl, subst, sym}
+use mathlib.Core.Path.{_≡_, refl}
 use mathlib.Core.Bool.{true, and-eq-true-iff}
 use mathlib.Core.List.{List, [], _∷_, _++_}
 use native.Mathlib.Omega.{arith}
-use lib.ListN.{length, take, drop}
+use lib.ListN.{drop}
 use lib.Dec.{leb}
 use borrow.Author.Tests.{leb-true}
-use Rattle.wire.specs.Sizes.{dataMost}
 use Rattle.wire.specs.Numbers.{Bytes}
 use Rattle.wire.specs.Frames.{Piece, Whole, Broken, All, cut}
 use Rattle.wire.specs.Serial.{isHead, serial, headOf, paramsOf}
-use Rattle.wire.specs.Replies.{Reply, kindOf}
+use Rattle.wire.specs.Replies.{Reply}
 use Rattle.wire.specs.Run.{runs, hunt}
 use Rattle.wire.proofs.NumberLaws.{bytes-append}
 use Rattle.wire.proofs.CutLaws.{Fair, all-pieces, pieces-fair}

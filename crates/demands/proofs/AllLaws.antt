@@ -1,4 +1,4 @@
--- The laws of every call: a new call adds its line here.
+-- The laws of every call over a record: a new one adds its line here.
 use Rattle.demands.specs.CallList.{Name, Factory, PowerOn, BytesIn, SamplesIn, callOf}
 use Rattle.demands.proofs.Laws.{Laws}
 use Rattle.demands.proofs.FactoryLaws.{factory-laws}

@@ -1,37 +1,35 @@
 -- What a board says is read back: its calls write frames that the reader takes, and each entry tells what was said.
-use Prim.Native.Nat.{ℕ, suc, _+_}
+use Prim.Native.Nat.{ℕ, zero, suc, _+_}
 use mathlib.Core.Path.{_≡_, refl, sym, ap, ap₂, subst, _∙_}
-use mathlib.Core.Bool.{Bool, true, false, cond}
+use mathlib.Core.Bool.{Bool, true, false, cond, _&&_, and-eq-true-iff}
 use mathlib.Core.List.{List, [], _∷_, _++_, append-assoc, append-nil}
-use mathlib.Core.Logic.{_≢_}
 use native.Mathlib.Omega.{arith}
 use lib.ListN.{length, take, drop, length-append}
 use lib.Seq.{take-at}
-use lib.Dec.{eqb}
-use borrow.Author.Tests.{eqb-true, eqb-false}
+use lib.Dec.{ltb, eqb}
+use borrow.Author.Tests.{eqb-true, eqb-false, ltb-true}
 use Rattle.wire.specs.Sizes.{sixValues}
-use Rattle.wire.specs.Numbers.{Bytes, bytesAt, put}
-use Rattle.wire.specs.Frames.{cut, placedFrom}
-use Rattle.wire.specs.Reader.{reader, Entry, entriesOf, listOf, entriesIn}
-use Rattle.wire.specs.Replies.{Reply, replyBytes, repliesBytes}
+use Rattle.wire.specs.Numbers.{Bytes, put}
+use Rattle.wire.specs.Reader.{Entry, listOf, entriesIn}
+use Rattle.wire.specs.Replies.{Reply, repliesBytes}
 use Rattle.wire.proofs.NumberLaws.{part-all}
 use Rattle.wire.proofs.PutLaws.{put-zero}
-use Rattle.wire.proofs.EntryLaws.{entries-back}
-use Rattle.wire.proofs.SpokenLaws.{Spoken, spokenBytes, Readable, entryAt, allBytes, all-none, all-cons, all-append, AllReadable, entriesAt, size, spoken-cut, spoken-entries, data-stands, Plain, spokenReply, reply-spoken, reply-readable, reply-status, spokenReading, reading-readable}
-use Rattle.record.specs.Layout.{recordSize, channels, recordOf}
+use Rattle.wire.proofs.EntryLaws.{entries-put}
+use Rattle.wire.proofs.SpokenLaws.{Spoken, spokenBytes, Readable, entryAt, allBytes, all-none, all-append, AllReadable, entriesAt, size, spoken-cut, spoken-entries, data-stands, Plain, spokenReply, reply-spoken, reply-readable, reply-status, spokenReading, reading-readable}
+use Rattle.record.specs.Layout.{recordSize, channels, bytesOf, recordOf}
+use Rattle.record.specs.Births.{factory}
 use Rattle.record.proofs.RoundTrip.{in-range}
 use Rattle.command.specs.Hunt.{huntOf}
 use Rattle.command.proofs.Plain.{AllPlain, hunt-plain}
-use Rattle.call.specs.Outcome.{Outcome, refused, done}
+use Rattle.call.specs.Outcome.{Outcome}
 use Rattle.call.specs.Reasons.{NoReason}
-use Rattle.call.specs.Calls.{factoryCall, powerOnCall, measuringFrame}
-use Rattle.call.specs.Read.{ReadOutcome, readRefused, readCauses, readEntries, afterRead, readCall}
-use Rattle.call.proofs.InOrder.{in-order}
+use Rattle.call.specs.Calls.{factoryCall, powerOnCall, bytesCall, samplesCall, measuringFrame}
+use Rattle.call.specs.Read.{readEntries, readCall}
 use Rattle.demands.specs.CallList.{Name, Factory, PowerOn, BytesIn, SamplesIn, callOf, Made, outcomeOf}
-use Rattle.demands.specs.Secrecy.{AllOfBytes}
+use Rattle.demands.specs.Secrecy.{AllOfBytes, sixZeros}
 use Rattle.demands.specs.Reader.{readReasons}
-use Rattle.demands.specs.ReadBack.{Said, Replied, Measured, replied, meantBy, meant, allMeant, wrote, allWrote, Tells, AllTell, ReadsBack, ReadBack}
-use Rattle.demands.proofs.Tests.{well}
+use Rattle.demands.specs.ReadBack.{Said, Replied, Measured, replied, meantBy, meant, allMeant, allWrote, Tells, AllTell, ReadsBack, ReadBack, named, SomethingSaid}
+use Rattle.demands.proofs.Tests.{well, settled}
 use Rattle.demands.proofs.Laws.{ends-by, unspoken, bytes-by}
 use Rattle.demands.proofs.FactoryLaws.{factory-done}
 use Rattle.demands.proofs.PowerOnLaws.{power-on-done}
@@ -108,13 +106,6 @@ unfolding allBytes
 reading-said true sample n = ap (λ (x : List ℕ). 0xAA ∷ 0x15 ∷ 0xB0 ∷ (x ++ 0x85 ∷ [])) (part-all sixValues sample n) ∙ sym (append-nil (spokenBytes (spokenReading sample)))
 reading-said false sample n = refl
 
-settled : (a b : ℕ) → ¬ (a ≢ b) → a ≡ b
-settled a b h = by (eqb a b) refl
-  where
-    by : (t : Bool) → eqb a b ≡ t → a ≡ b
-    by true e = eqb-true a b e
-    by false e = absurd (h (eqb-false a b e))
-
 done-speaks : (n : Name) (l : callOf n .Lent) (s : List ℕ) → Bytes s → callOf n .OfBytes l → NoReason (callOf n .reasons l s) → Speaks (meantBy n l s) (callOf n .outcome l s)
 done-speaks Factory l s b g n = silent (factoryCall s) (ap (λ (z : Outcome). z .answer .written) (factory-done s (settled (length s) recordSize (n .0))))
 done-speaks PowerOn l s b g n = silent (powerOnCall s) (ap (λ (z : Outcome). z .answer .written) (power-on-done s (n .0)))
@@ -152,8 +143,8 @@ all-speak (m ∷ calls) s b g =
 
 tells : (before : List ℕ) (m : Said) (more : List ℕ) → Fit m
     → Tells (before ++ (spokenBytes (spoken m) ++ more)) (entryAt (length before) (spoken m)) m
-tells before (Replied a) more f = (refl, reply-status a f, data-stands before (spokenReply a) more)
-tells before (Measured sample) more f = (refl, refl, data-stands before (spokenReading sample) more)
+tells before (Replied a) more f = (refl, reply-status a f, refl, data-stands before (spokenReply a) more)
+tells before (Measured sample) more f = (refl, refl, f, data-stands before (spokenReading sample) more)
 
 all-tell : (before : List ℕ) (said : List Said) → AllFit said → AllTell (before ++ allBytes (spokens said)) (entriesAt (length before) (spokens said)) said
 unfolding allBytes entriesAt
@@ -173,10 +164,6 @@ unfolding entriesAt
 many at [] = refl
 many at (m ∷ said) = ap suc (many (at + 4 + length (spoken m .body)) said)
 
--- the list holds the entries
-listed-back : (capture list : List ℕ) → entriesIn (length (readEntries capture)) (put list 0 (listOf (readEntries capture))) ≡ readEntries capture
-listed-back capture list = let es = readEntries capture in rw (put-zero list (listOf es)) (entries-back es (drop (length (listOf es)) list))
-
 spoken-back : (said : List Said) (list : List ℕ) → AllFit said → NoReason (readReasons (allBytes (spokens said)) list) → ReadsBack (allBytes (spokens said)) said (readCall (allBytes (spokens said)) list)
 spoken-back said list f n =
     let fs = spokens said in
@@ -190,7 +177,7 @@ spoken-back said list f n =
       answered = λ i. record { result = 0; entries = k i; skipped = c .0 i; unread = ap length (c .1) i };
       told =
           subst (λ (x : List Entry). AllTell capture x said)
-          (sym (ap (λ (j : ℕ). entriesIn j (put list 0 (listOf (readEntries capture)))) (sym k) ∙ listed-back capture list ∙ e)) (all-tell [] said f);
+          (sym (ap (λ (j : ℕ). entriesIn j (put list 0 (listOf (readEntries capture)))) (sym k) ∙ entries-put (readEntries capture) list ∙ e)) (all-tell [] said f);
     })
 
 pub read-back : ReadBack
@@ -198,3 +185,19 @@ read-back calls s list b g short room =
     let w = all-speak calls s b g in
     let n : NoReason (readReasons (allWrote calls s) list) = (λ h. omega arith, (λ h. omega arith, tt)) in
     rw (w .0) (spoken-back (allMeant calls s) list (w .1) (rw (w .0) at n))
+
+-- ---- it says something
+
+-- bytes, by a computed test
+abbrev small : List ℕ → Bool
+small [] = true
+small (x ∷ l) = ltb x 256 && small l
+
+small-bytes : (l : List ℕ) → small l ≡ true → Bytes l
+small-bytes [] e i = omega arith
+small-bytes (x ∷ l) e zero = ltb-true x 256 (and-eq-true-iff (ltb x 256) (small l) .0 e .0)
+small-bytes (x ∷ l) e (suc i) = small-bytes l (and-eq-true-iff (ltb x 256) (small l) .0 e .1) i
+
+pub something-said : SomethingSaid
+unfolding bytesCall samplesCall replied huntOf bytesOf recordOf factory
+something-said = record { of-bytes = (small-bytes named refl, (small-bytes sixZeros refl, tt)); said = refl; wrote = refl }

@@ -30,6 +30,13 @@ unless-false false h = absurd (h refl)
 pub well : (s : List ℕ) → ¬ Malformed s → wellFormed s ≡ true
 well s h = unless-false (wellFormed s) h
 
+pub settled : (a b : ℕ) → ¬ (a ≢ b) → a ≡ b
+settled a b h = by (eqb a b) refl
+  where
+    by : (t : Bool) → eqb a b ≡ t → a ≡ b
+    by true e = eqb-true a b e
+    by false e = absurd (h (eqb-false a b e))
+
 bad-by : (b : Bool) → bad (formBy b) ≡ not b
 bad-by true = refl
 bad-by false = refl

@@ -1,4 +1,4 @@
--- A call as a value: what it is lent, why it refuses, what it leaves, and when it tells nothing of a code. Every demand is stated over the list of calls.
+-- A call over a record as a value: what it is lent, why it refuses, what it leaves, and when it tells nothing of a code. Every demand is stated over the list of them.
 use Prim.Native.Nat.{ℕ, _+_, _*_, _/_, _<_}
 use mathlib.Core.Path.{_≡_}
 use mathlib.Core.Logic.{_≢_}
@@ -101,7 +101,7 @@ samplesReasons s sample o = reason (Malformed s) BadRecord ∷ reason (length sa
 abbrev pub samplesEntry : Call
 samplesEntry = buffered samplesReasons samplesCall (λ l s t. Unit {0})
 
--- ---- their list: a new call is one more name here, and its laws
+-- ---- their list: a new call over a record is one more name here, and its laws
 
 pub data Name : Type 0 where
   Factory : Name

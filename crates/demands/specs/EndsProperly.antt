@@ -1,4 +1,4 @@
--- Demand 1: every call ends properly, on all inputs.
+-- Demand 1: every call over a record ends properly, on all inputs.
 use Prim.Native.Nat.{ℕ}
 use mathlib.Core.Path.{_≡_}
 use mathlib.Core.List.{List}

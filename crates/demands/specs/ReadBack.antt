@@ -4,7 +4,7 @@ use Prim.Native.Nat.{ℕ, _+_, _*_, _/_, _≤_}
 use mathlib.Core.Path.{_≡_}
 use mathlib.Core.Bool.{cond}
 use mathlib.Core.List.{List, [], _∷_, _++_}
-use lib.ListN.{length, take, drop}
+use lib.ListN.{length, take, drop, replicate}
 use lib.Dec.{eqb}
 use Rattle.wire.specs.Numbers.{Bytes}
 use Rattle.wire.specs.Reader.{Entry, entriesIn}
@@ -13,7 +13,8 @@ use Rattle.record.specs.Layout.{recordOf}
 use Rattle.command.specs.Hunt.{huntOf}
 use Rattle.call.specs.Read.{ReadOutcome, readCall}
 use Rattle.demands.specs.CallList.{Name, Factory, PowerOn, BytesIn, SamplesIn, callOf, Made, outcomeOf}
-use Rattle.demands.specs.Secrecy.{AllOfBytes}
+use Rattle.demands.specs.Examples.{openFrame}
+use Rattle.demands.specs.Secrecy.{AllOfBytes, ours, sixZeros, frameRoom}
 
 -- ---- what a board means
 
@@ -59,8 +60,8 @@ dataIn capture e = take (e .count) (drop (e .place) capture)
 
 -- head byte (kind and length), status and data of a reply; head 15, status B0 and the 24 bytes of a reading
 abbrev pub Tells : List ℕ → Entry → Said → Type 0
-Tells capture e (Replied a) = (e .head ≡ a .kind * 16 + length (a .body)) × (e .status ≡ a .status) × (dataIn capture e ≡ a .body)
-Tells capture e (Measured sample) = (e .head ≡ 0x15) × (e .status ≡ 0xB0) × (dataIn capture e ≡ sample)
+Tells capture e (Replied a) = (e .head ≡ a .kind * 16 + length (a .body)) × (e .status ≡ a .status) × (e .count ≡ length (a .body)) × (dataIn capture e ≡ a .body)
+Tells capture e (Measured sample) = (e .head ≡ 0x15) × (e .status ≡ 0xB0) × (e .count ≡ 24) × (dataIn capture e ≡ sample)
 
 -- one entry for each, in order
 abbrev pub AllTell : List ℕ → List Entry → List Said → Type 0
@@ -78,3 +79,22 @@ pub record ReadsBack (capture : List ℕ) (said : List Said) (z : ReadOutcome) :
 abbrev pub ReadBack : Type 0
 ReadBack = (calls : List Made) (s list : List ℕ) → Bytes s → AllOfBytes calls → length (allWrote calls s) ≤ 4096 → length (allWrote calls s) / 4 ≤ length list / 4
     → ReadsBack (allWrote calls s) (allMeant calls s) (readCall (allWrote calls s) list)
+
+-- ---- it says something
+
+-- a factory board is opened, given a name of 15 letters and asked for it, and closed; then a reading is taken
+abbrev pub fullName : List ℕ
+fullName = 0x66 ∷ 0x69 ∷ 0x66 ∷ 0x74 ∷ 0x65 ∷ 0x65 ∷ 0x6E ∷ 0x20 ∷ 0x6C ∷ 0x65 ∷ 0x74 ∷ 0x74 ∷ 0x65 ∷ 0x72 ∷ 0x73 ∷ []
+
+abbrev pub named : List ℕ
+named = openFrame ++ (0xAA ∷ 0xAF ∷ 0xE9 ∷ fullName ++ (0x85 ∷ 0xAA ∷ 0xA0 ∷ 0xE8 ∷ 0x85 ∷ 0xAA ∷ 0xA0 ∷ 0xE1 ∷ 0x85 ∷ []))
+
+abbrev pub visit : List Made
+visit = record { name = BytesIn; lent = record { input = named; output = replicate 190 0x00 } } ∷ record { name = SamplesIn; lent = record { input = sixZeros; output = frameRoom } } ∷ []
+
+-- Four replies, the third of which is the full name, and a reading: 61 bytes.
+pub record SomethingSaid : Type 0 where
+  pub of-bytes : AllOfBytes visit
+  pub said : length (allMeant visit ours) ≡ 5
+  pub wrote : allWrote visit ours
+      ≡ 0xAA ∷ 0x62 ∷ 0x00 ∷ 0x00 ∷ 0x14 ∷ 0x85 ∷ 0xAA ∷ 0x60 ∷ 0x00 ∷ 0x85 ∷ 0xAA ∷ 0x6F ∷ 0x00 ∷ fullName ++ (0x85 ∷ 0xAA ∷ 0x60 ∷ 0x00 ∷ 0x85 ∷ 0xAA ∷ 0x15 ∷ 0xB0 ∷ sixZeros ++ (0x85 ∷ []))

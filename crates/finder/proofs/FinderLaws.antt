@@ -6,10 +6,9 @@ use mathlib.Core.List.{List}
 use mathlib.Core.Bool.{Bool, true, false, not, _&&_}
 use native.Mathlib.Nat.{add-zero}
 use native.Mathlib.Omega.{arith}
-use lib.ListN.{length, getD, drop, length-drop}
-use lib.Seq.{getD-drop}
+use lib.ListN.{length, getD, drop}
 use lib.Dec.{eqb}
-use borrow.Author.Tests.{eq-eqb, ne-eqb, eqb-false, not-true}
+use borrow.Author.Tests.{eqb-false, not-true}
 use Rattle.wire.specs.Frames.{Heads, Look, Skip, Wait, Take, Tear, look, Passed}
 use Rattle.wire.specs.declared.Size.the-variants.{Of}
 use Rattle.wire.specs.Serial.{Fixed, NotHead, fronted, endsIn85, lineHead, headsOf, Noise}

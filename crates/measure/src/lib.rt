@@ -15,10 +15,9 @@ use reading::peaks::finite_values;
 use reading::peaks::take_reading;
 use reading::peaks::values_of;
 use record::Form;
+use wire::sizes::SAMPLE_SIZE;
 
-// A reading of six channels, and its measuring frame.
-const SAMPLE_SIZE: usize = 24;
-
+// The measuring frame of a reading.
 const MEASURING_SIZE: usize = 28;
 
 const FRAME_COUNT: u32 = MEASURING_SIZE as u32;

@@ -10,7 +10,7 @@ use lib.Seq.{drop-drop}
 use Rattle.wire.specs.Numbers.{put}
 use Rattle.wire.specs.declared.Size.the-variants.{NoHead, Of}
 use Rattle.wire.specs.Serial.{Noise}
-use Rattle.wire.specs.Frames.{Skip, Wait, Take, Tear, look, Cut, stop, cut, Placed, placedFrom, Passed}
+use Rattle.wire.specs.Frames.{Skip, Wait, Take, Tear, look, Cut, stop, cut, placedFrom, Passed}
 use Rattle.wire.specs.Reader.{Entry, reader, entryOf, entriesOf, entryNumbers, listOf}
 use Rattle.wire.proofs.CutLaws.{look-headless, take-room, tear-room, cut-nil, cut-wait, cut-take, cut-tear}
 use Rattle.wire.proofs.Stretches.{stretch-none, stretch-one, passed-cuts}
@@ -20,7 +20,6 @@ use Rattle.wire.proofs.EntryLaws.{entries-cons, entries-none, list-one, length-
 use Rattle.wire.proofs.PutLaws.{put-nil, put-put, length-put}
 use Rattle.call.specs.Read.{readEntries}
 use Rattle.reader.specs.Progress.{Reads, ReadsAll}
-use Rattle.reader.specs.declared.Heard.{Heard}
 
 module _ (l before : List ℕ) where
   pub reads-start : Reads l before 0 0 0 before

@@ -8,7 +8,7 @@ ghost use Rattle.wire.specs.Serial.{told};
 ghost use Rattle.wire.specs.Reader.{isLong, readerHead, reader};
 use wire::Size;
 use wire::sizes::DATA_MOST;
-use wire::sizes::SIX_VALUES;
+use wire::sizes::SAMPLE_SIZE;
 
 // The head of a long reply.
 pub fn is_long(b: u8) -> bool
@@ -27,7 +27,7 @@ fn third_size(b: u8, t: u8) -> Size
         return Size::Of(n);
     }
     if t == 0xB0 {
-        return Size::Of(SIX_VALUES);
+        return Size::Of(SAMPLE_SIZE);
     }
     Size::NoHead
 }

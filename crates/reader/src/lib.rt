@@ -6,7 +6,7 @@ ghost use Prim.Native.Nat.{_+_, _*_, _/_, _≤_};
 ghost use lib.ListN.{length, take, drop};
 ghost use Rattle.wire.specs.Sizes.{captureMost};
 ghost use Rattle.wire.specs.Numbers.{put};
-ghost use Rattle.wire.specs.Reader.{statusIn, entryOf, entryNumbers};
+ghost use Rattle.wire.specs.Reader.{statusTold, entryOf, entryNumbers};
 ghost use Rattle.call.specs.Read.{readCall, ReadLeaves};
 ghost use Rattle.reader.specs.Progress.{ReadsAll};
 use call::Ending;
@@ -17,7 +17,10 @@ use heads::is_long;
 use heads::size_at;
 use wire::Size;
 use wire::sizes::CAPTURE_MOST;
-use wire::sizes::ENTRY_NUMBERS;
+use wire::sizes::FRAME_LEAST;
+
+// The numbers of one entry.
+const ENTRY_NUMBERS: usize = 4;
 
 // What was read of a capture: entries written, bytes skipped, bytes unread.
 pub struct Heard {
@@ -28,7 +31,7 @@ pub struct Heard {
 
 // The status that an entry tells.
 fn status_in(head: u8, third: u8) -> u32
-    ensures { λ n. ⌜ n ≡ statusIn head third ⌝ }
+    ensures { λ n. ⌜ n ≡ statusTold head third ⌝ }
 {
     if is_long(head) {
         return 0;
@@ -51,18 +54,17 @@ fn put_entry(list: &mut [u32], k: usize, s: &[u8], at: usize, n: usize)
     list[from + 3] = n as u32;
 }
 
-// Reads all of a capture.
+// Reads all of a capture. The head behind a torn AA is no AA, so the two are skipped at once.
 fn read_in(s: &[u8], list: &mut [u32]) -> Heard
     requires { ⌜ (length (now s) ≤ captureMost) × (length (now s) / 4 ≤ length (now list) / 4) ⌝ }
     ensures { λ h. ⌜ ReadsAll (now (s .entry)) (now (list .entry)) h (now (list .exit)) ⌝ }
 {
-    let until = s.len();
     let mut at = 0;
     let mut entries = 0;
     let mut framed = 0;
-    'read: while at < until {
+    'read: while at < s.len() {
         if s[at] != 0xAA {
-            at = next_aa(s, at, until);
+            at = next_aa(s, at, s.len());
             continue 'read;
         }
         let n = match size_at(s, at) {
@@ -70,16 +72,13 @@ fn read_in(s: &[u8], list: &mut [u32]) -> Heard
                 at += 1;
                 continue 'read;
             }
-            Size::NeedMore => {
-                break 'read;
-            }
+            Size::NeedMore => break 'read,
             Size::Of(n) => n,
         };
         let last = at + 3 + n;
-        if until <= last {
+        if s.len() <= last {
             break 'read;
         }
-        // The AA is skipped; the head behind it is no AA, so it is skipped too.
         if s[last] != 0x85 {
             at += 2;
             continue 'read;
@@ -92,7 +91,7 @@ fn read_in(s: &[u8], list: &mut [u32]) -> Heard
     Heard {
         entries,
         skipped: at - framed,
-        unread: until - at,
+        unread: s.len() - at,
     }
 }
 
@@ -103,7 +102,7 @@ pub fn answer_read(capture: &[u8], list: &mut [u32]) -> ReadAnswer
     if CAPTURE_MOST < capture.len() {
         return read_ended(Ending::BadLength);
     }
-    if list.len() / ENTRY_NUMBERS < capture.len() / 4 {
+    if list.len() / ENTRY_NUMBERS < capture.len() / FRAME_LEAST {
         return read_ended(Ending::NoRoom);
     }
     let h = read_in(capture, list);

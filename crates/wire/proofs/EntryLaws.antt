@@ -7,8 +7,8 @@ use lib.ListN.{length, getD, take, drop, set, length-append, length-drop}
 use lib.Seq.{getD-take, getD-drop, length-take-le}
 use Rattle.wire.specs.Numbers.{put}
 use Rattle.wire.specs.Frames.{Placed}
-use Rattle.wire.specs.Reader.{Entry, statusIn, entryOf, entriesOf, entryNumbers, listOf, entriesIn}
-use Rattle.wire.proofs.PutLaws.{put-four}
+use Rattle.wire.specs.Reader.{Entry, statusTold, entryOf, entriesOf, entryNumbers, listOf, entriesIn}
+use Rattle.wire.proofs.PutLaws.{put-zero, put-four}
 
 pub entries-none : entriesOf [] ≡ []
 unfolding entriesOf
@@ -33,10 +33,13 @@ length-list [] = refl
 length-list (e ∷ es) = omega (arith, length-append (entryNumbers e) (listOf es), length-list es)
 
 -- the entries that were put into a list stand at its start
-pub entries-back : (es : List Entry) (more : List ℕ) → entriesIn (length es) (listOf es ++ more) ≡ es
+entries-back : (es : List Entry) (more : List ℕ) → entriesIn (length es) (listOf es ++ more) ≡ es
 unfolding listOf entriesIn
 entries-back [] more = refl
 entries-back (e ∷ es) more = ap (λ (x : List Entry). e ∷ x) (entries-back es more)
+
+pub entries-put : (es : List Entry) (list : List ℕ) → entriesIn (length es) (put list 0 (listOf es)) ≡ es
+entries-put es list = rw (put-zero list (listOf es)) (entries-back es (drop (length (listOf es)) list))
 
 -- ---- the entry of a frame that stands at a place of a capture
 
@@ -50,13 +53,13 @@ module _ (s : List ℕ) (at n : ℕ) (whole : at + 4 + n ≤ length s) where
   long : length (found .frame) ≡ 4 + n
   long = length-take-le (4 + n) (drop at s) (rw (length-drop at s) (omega arith))
 
-  entry-is : entryOf found ≡ record { head = getD s (at + 1) 0; status = statusIn (getD s (at + 1) 0) (getD s (at + 2) 0); place = at + 3; count = n }
+  entry-is : entryOf found ≡ record { head = getD s (at + 1) 0; status = statusTold (getD s (at + 1) 0) (getD s (at + 2) 0); place = at + 3; count = n }
   entry-is =
       let m : length (found .frame) - 4 ≡ n = omega (arith, long) in
       rw (byte 1 (omega arith), byte 2 (omega arith), m) refl
 
   -- stored in a list
-  pub entry-put : (list : List ℕ) (k status : ℕ) → 4 * k + 4 ≤ length list → status ≡ statusIn (getD s (at + 1) 0) (getD s (at + 2) 0)
+  pub entry-put : (list : List ℕ) (k status : ℕ) → 4 * k + 4 ≤ length list → status ≡ statusTold (getD s (at + 1) 0) (getD s (at + 2) 0)
       → set (set (set (set list (4 * k) (getD s (at + 1) 0)) (4 * k + 1) status) (4 * k + 2) (at + 3)) (4 * k + 3) n ≡ put list (4 * k) (entryNumbers (entryOf (record { at = at; frame = take (4 + n) (drop at s) })))
   entry-put list k status room e =
       put-four list (4 * k) (getD s (at + 1) 0) status (at + 3) n room

@@ -1,12 +1,12 @@
--- The frames of a stream with their places: each decision as an equation, and that they are the pieces of the cut.
+-- The frames of a stream with their places: each decision as an equation, and bytes passed.
 use Prim.Native.Nat.{ℕ, zero, suc, _+_, _-_, _≤_, _<_}
-use mathlib.Core.Path.{_≡_, refl, sym, ap, ap₂, _∙_}
-use mathlib.Core.List.{List, [], _∷_, _++_}
-use native.Mathlib.Nat.{add-zero, add-assoc}
+use mathlib.Core.Path.{_≡_, refl, sym, ap, _∙_}
+use mathlib.Core.List.{List, [], _∷_}
+use native.Mathlib.Nat.{add-zero}
 use native.Mathlib.Omega.{arith}
 use lib.ListN.{length, take, drop, length-drop}
 use lib.Seq.{drop-drop}
-use Rattle.wire.specs.Frames.{Heads, Look, Skip, Wait, Take, Tear, look, Cut, onward, cutFrom, cut, sizes, Placed, placedOn, placedFrom, Passed}
+use Rattle.wire.specs.Frames.{Heads, Skip, Wait, Take, Tear, look, Placed, placedOn, placedFrom, Passed}
 use Rattle.wire.proofs.CutLaws.{take-room, tear-room}
 
 module _ (h : Heads) where

@@ -1,4 +1,4 @@
--- What a byte announces in a capture, by the tests of the code.
+-- The reader's heads: what the bytes behind an AA announce, by the tests of the code; a candidate at a place of a capture; no frame has more than 270 data bytes.
 use Prim.Native.Nat.{ℕ, _+_, _%_, _≤_, _<_}
 use mathlib.Core.Path.{_≡_, refl, sym, _∙_}
 use mathlib.Core.Bool.{Bool, true, false, cond, true≢false, _||_}
@@ -14,7 +14,7 @@ use Rattle.wire.specs.Sizes.{dataMost, longMost, sixValues}
 use Rattle.wire.specs.Numbers.{Bytes}
 use Rattle.wire.specs.Frames.{Wait, Take, Tear, look, Passed}
 use Rattle.wire.specs.Serial.{NotHead, Fixed, ByThird, told, front, fronted, endsIn85, Noise}
-use Rattle.wire.specs.Reader.{isReply, isLong, longSize, measuringSize, readerHead, reader}
+use Rattle.wire.specs.Reader.{isReply, isLong, longBy, measuringBy, readerHead, reader}
 use Rattle.wire.proofs.SerialLaws.{noise-passed, alone-at, told-at, candidate-waits, candidate-torn, candidate-frame}
 
 module _ (b : ℕ) where
@@ -29,7 +29,7 @@ module _ (b : ℕ) where
         let g : isLong b ≡ true = long-by (isLong b) (rw f at decides) in
         rw (f, g) refl
 
-    unsaid-by : (a c : Bool) (t : ℕ) → (a || c) ≡ true → told (cond c (ByThird measuringSize) (cond a (ByThird longSize) (cond (isReply b) (Fixed (b % 16)) NotHead))) false t ≡ NeedMore
+    unsaid-by : (a c : Bool) (t : ℕ) → (a || c) ≡ true → told (cond c (ByThird measuringBy) (cond a (ByThird longBy) (cond (isReply b) (Fixed (b % 16)) NotHead))) false t ≡ NeedMore
     unsaid-by a true t e = refl
     unsaid-by true false t e = refl
     unsaid-by false false t e = absurd (true≢false (sym e))
@@ -44,7 +44,7 @@ module _ (b : ℕ) where
   third-other e t h = rw (eq-eqb b 0x15 e, ne-eqb t 0xB0 h) refl
 
   module _ (plain : (isLong b || eqb b 0x15) ≡ false) (third : Bool) (t : ℕ) where
-    plain-by : (a c d : Bool) (n : ℕ) → (a || c) ≡ false → told (cond c (ByThird measuringSize) (cond a (ByThird longSize) (cond d (Fixed n) NotHead))) third t ≡ told (cond d (Fixed n) NotHead) third t
+    plain-by : (a c d : Bool) (n : ℕ) → (a || c) ≡ false → told (cond c (ByThird measuringBy) (cond a (ByThird longBy) (cond d (Fixed n) NotHead))) third t ≡ told (cond d (Fixed n) NotHead) third t
     plain-by true true d n e = absurd (true≢false e)
     plain-by false true d n e = absurd (true≢false e)
     plain-by true false d n e = absurd (true≢false e)
@@ -74,7 +74,7 @@ front-of true true v n e = e
 few : (v : Size) (m n : ℕ) → v ≡ Of m → m ≤ longMost → v ≡ Of n → n ≤ longMost
 few v m n p h e = let q : m ≡ n = cc in omega arith
 
-few-by : (a c d third : Bool) (b t n : ℕ) → t < 256 → told (cond a (ByThird measuringSize) (cond c (ByThird longSize) (cond d (Fixed (b % 16)) NotHead))) third t ≡ Of n → n ≤ longMost
+few-by : (a c d third : Bool) (b t n : ℕ) → t < 256 → told (cond a (ByThird measuringBy) (cond c (ByThird longBy) (cond d (Fixed (b % 16)) NotHead))) third t ≡ Of n → n ≤ longMost
 few-by true c d false b t n h e = let z : _≡_ {A = ℕ} 0 1 = cc in absurd (omega arith)
 few-by true c d true b t n h e = six (eqb t 0xB0) e
   where

@@ -1,20 +1,20 @@
 -- Frames that boards say, one behind the other, are read back: nothing is skipped, nothing waits, and each entry has its frame's data.
-use Prim.Native.Nat.{ℕ, _+_, _-_, _*_, _/_, _%_, _≤_, _<_}
+use Prim.Native.Nat.{ℕ, _+_, _-_, _*_, _%_, _≤_, _<_}
 use mathlib.Core.Path.{_≡_, refl, sym, ap, ap₂, _∙_}
 use mathlib.Core.Logic.{_⊎_, ⊎-elim}
-use mathlib.Core.Bool.{Bool, true, false, _&&_, _||_}
+use mathlib.Core.Bool.{true, false, _||_}
 use mathlib.Core.List.{List, [], _∷_, _++_, append-assoc}
-use native.Mathlib.Nat.{add-zero, eq-or-lt-of-le}
+use native.Mathlib.Nat.{eq-or-lt-of-le}
 use native.Mathlib.Omega.{arith}
 use lib.ListN.{length, getD, take, drop, length-append}
 use lib.Seq.{take-at, drop-at, drop-append-add, getD-at}
-use lib.Dec.{ltb, leb, eqb}
+use lib.Dec.{eqb}
 use borrow.Author.Tests.{lt-ltb, le-leb, eq-eqb, ne-eqb}
 use Rattle.wire.specs.declared.Size.the-variants.{Of}
 use Rattle.wire.specs.Sizes.{dataMost, sixValues}
-use Rattle.wire.specs.Frames.{Take, look, Whole, Piece, Cut, cut, Placed, placedFrom}
+use Rattle.wire.specs.Frames.{Take, look, Cut, cut, placedFrom}
 use Rattle.wire.specs.Serial.{told, endsIn85}
-use Rattle.wire.specs.Reader.{isReply, isLong, readerHead, reader, Entry, statusIn, entryOf, entriesOf}
+use Rattle.wire.specs.Reader.{isReply, isLong, readerHead, reader, Entry, statusTold, entryOf, entriesOf}
 use Rattle.wire.specs.Replies.{Reply, replyBytes}
 use Rattle.wire.proofs.CutLaws.{look-frame, cut-nil, cut-take}
 use Rattle.wire.proofs.SerialLaws.{size-told, closed-is}
@@ -37,7 +37,7 @@ Readable f = told (readerHead (f .head)) true (f .third) ≡ Of (length (f .body
 
 -- the entry of a frame that begins at a place
 abbrev pub entryAt : ℕ → Spoken → Entry
-entryAt at f = record { head = f .head; status = statusIn (f .head) (f .third); place = at + 3; count = length (f .body) }
+entryAt at f = record { head = f .head; status = statusTold (f .head) (f .third); place = at + 3; count = length (f .body) }
 
 module _ (f : Spoken) (more : List ℕ) where
   abbrev l : List ℕ
@@ -81,10 +81,6 @@ allBytes (f ∷ fs) = spokenBytes f ++ allBytes fs
 pub all-none : allBytes [] ≡ []
 unfolding allBytes
 all-none = refl
-
-pub all-cons : (f : Spoken) (fs : List Spoken) → allBytes (f ∷ fs) ≡ spokenBytes f ++ allBytes fs
-unfolding allBytes
-all-cons f fs = refl
 
 pub all-append : (fs gs : List Spoken) → allBytes (fs ++ gs) ≡ allBytes fs ++ allBytes gs
 unfolding allBytes
@@ -185,7 +181,7 @@ module _ (a : Reply) (p : Plain a) where
   reply-readable = ⊎-elim full-readable short-readable (eq-or-lt-of-le (p .short))
 
   -- the status that its entry tells
-  pub reply-status : statusIn head (a .status) ≡ a .status
+  pub reply-status : statusTold head (a .status) ≡ a .status
   reply-status = ⊎-elim (λ e. rw (long-head e) (sym (p .full e))) (λ h. rw (short-head h) refl) (eq-or-lt-of-le (p .short))
 
 -- a measuring frame

@@ -8,6 +8,7 @@ use Rattle.wire.specs.declared.Announced.the-variants.{Params, NoFrame}
 abbrev pub announcedBy : Head → Announced
 announcedBy NotHead = NoFrame
 announcedBy (Fixed n) = Params n
+-- no line of commands has such a head
 announcedBy (ByThird says) = NoFrame
 
 abbrev pub announcedOf : Line → ℕ → Announced

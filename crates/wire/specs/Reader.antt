@@ -19,16 +19,16 @@ abbrev pub isLong : ℕ → Bool
 isLong b = eqb b 0x5F || eqb b 0x6F
 
 -- "with length 15 the data length is the status byte plus 15, up to 270"
-abbrev pub longSize : ℕ → Size
-longSize t = Of (t + dataMost)
+abbrev pub longBy : ℕ → Size
+longBy t = Of (t + dataMost)
 
 -- "measuring frames with head 15 and status B0"
-abbrev pub measuringSize : ℕ → Size
-measuringSize t = cond (eqb t 0xB0) (Of sixValues) NoHead
+abbrev pub measuringBy : ℕ → Size
+measuringBy t = cond (eqb t 0xB0) (Of sixValues) NoHead
 
 -- what the byte behind the AA announces in a capture
 abbrev pub readerHead : ℕ → Head
-readerHead b = cond (eqb b 0x15) (ByThird measuringSize) (cond (isLong b) (ByThird longSize) (cond (isReply b) (Fixed (b % 16)) NotHead))
+readerHead b = cond (eqb b 0x15) (ByThird measuringBy) (cond (isLong b) (ByThird longBy) (cond (isReply b) (Fixed (b % 16)) NotHead))
 
 -- the reader's set of heads
 unfoldable pub reader : Heads
@@ -43,13 +43,13 @@ pub record Entry : Type 0 where
   pub place : ℕ
   pub count : ℕ
 
--- the status that is told: the third byte of a long reply belongs to its length
-abbrev pub statusIn : ℕ → ℕ → ℕ
-statusIn head third = cond (isLong head) 0 third
+-- "A reply of exactly 15 bytes, as a full name gives, has status 0 there": the third byte of a long reply belongs to its length
+abbrev pub statusTold : ℕ → ℕ → ℕ
+statusTold head third = cond (isLong head) 0 third
 
 -- the entry of a frame that begins at a place
 abbrev pub entryOf : Placed → Entry
-entryOf p = record { head = headOf (p .frame); status = statusIn (headOf (p .frame)) (numberOf (p .frame)); place = p .at + 3; count = length (p .frame) - 4 }
+entryOf p = record { head = headOf (p .frame); status = statusTold (headOf (p .frame)) (numberOf (p .frame)); place = p .at + 3; count = length (p .frame) - 4 }
 
 unfoldable pub entriesOf : List Placed → List Entry
 entriesOf [] = []

@@ -21,11 +21,11 @@ waitMost = 18
 abbrev pub inputMost : ℕ
 inputMost = 4096
 
--- "six 32-bit floats": the data of a measuring frame
+-- "AA 15 B0, the 24 bytes, 85": the data of a measuring frame of six channels
 abbrev pub sixValues : ℕ
 sixValues = 24
 
--- "captures of whole frames and at most 4,096 bytes"
+-- "capture over 4,096 bytes gives 2"
 abbrev pub captureMost : ℕ
 captureMost = 4096
 

@@ -3,22 +3,23 @@
 // The parameters of a frame, the data of a reply.
 pub const DATA_MOST: usize = 15;
 
+// The shortest frame: no parameters, no data.
+pub const FRAME_LEAST: usize = 4;
+
 // A frame or a reply.
 pub const FRAME_MOST: usize = 19;
 
 // What waits for the rest of a frame.
 pub const WAIT_MOST: usize = 18;
 
-// What one call takes.
+// What a bytes call takes.
 pub const INPUT_MOST: usize = 4096;
 
-// The data of a measuring frame.
-pub const SIX_VALUES: usize = 24;
+// A reading of six channels, the data of a measuring frame.
+pub const SAMPLE_SIZE: usize = 24;
 
-// What the reader takes, in bytes, and the numbers of each entry that it gives.
+// What the reader takes.
 pub const CAPTURE_MOST: usize = 4096;
-
-pub const ENTRY_NUMBERS: usize = 4;
 
 // Waiting bytes and what a candidate that starts in them can reach of the input.
 pub const JOIN_MOST: usize = WAIT_MOST + FRAME_MOST;

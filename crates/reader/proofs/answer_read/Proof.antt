@@ -1,6 +1,4 @@
 -- `answer_read`: the refusals in their order, then the reading with its counts.
-use mathlib.Core.Path.{_≡_}
-use Rattle.call.specs.declared.ReadAnswer.{ReadAnswer}
 use Rattle.call.specs.declared.Ending.the-variants.{Done}
 use Rattle.call.specs.Outcome.{resultOf}
 use Rattle.call.proofs.ReadEnds.{too-long, no-entries, reads}

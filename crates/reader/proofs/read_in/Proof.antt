@@ -18,10 +18,10 @@ use Rattle.reader.proofs.read_in.Statement.{statement}
 use Rattle.reader.proofs.read_in.Tie as tie
 
 abbrev Inv-read : tie.InvT-read
-Inv-read s list₀ until at₀ entries₀ framed₀ list at entries framed = Reads s list₀ at entries framed list
+Inv-read s list₀ at₀ entries₀ framed₀ list at entries framed = Reads s list₀ at entries framed list
 
 abbrev μ-read : tie.MeasureT-read
-μ-read s list₀ until at₀ entries₀ framed₀ list at entries framed = length s - at
+μ-read s list₀ at₀ entries₀ framed₀ list at entries framed = length s - at
 
 -- at the head of the loop
 module _ (l : tie.At-read Inv-read μ-read) where
@@ -180,8 +180,8 @@ read-again-4 c =
 sub-t20 : tie.Need-sub-t20 Inv-read μ-read
 sub-t20 c = omega (arith, c .before .read .inv .few, c .before .read .inv .within)
 
-sub-t21 : tie.Need-sub-t21 Inv-read μ-read
-sub-t21 c = omega (arith, c .before .read .inv .within)
+sub-t22 : tie.Need-sub-t22 Inv-read μ-read
+sub-t22 c = omega (arith, c .before .read .inv .within)
 
 same-length : tie.Need-same-length Inv-read μ-read
 same-length c = let l = c .before in reads-long (capture l) (before l) (here l) (l .read .entries) (l .read .framed) (l .read .list) (l .read .inv) (room l)
@@ -221,6 +221,6 @@ read-in-spec =
     read-less-4
     read-again-4
     sub-t20
-    sub-t21
+    sub-t22
     same-length
     returns)
