@@ -178,10 +178,10 @@ read-again-4 c =
     reads-frame (capture l) (before l) (here l) (l .read .entries) (l .read .framed) (l .read .list) (l .read .inv) (room l) (count k) (said k) (whole c) (c .before .before .before .before .if3 .left) _ (c .before .before .put-entry .ensures)
 
 sub-t20 : tie.Need-sub-t20 Inv-read μ-read
-sub-t20 c = omega (arith, c .before .read .inv .few, c .before .read .inv .within)
+sub-t20 c = omega (arith, c .before .read .inv .fours, c .before .read .inv .few)
 
 sub-t22 : tie.Need-sub-t22 Inv-read μ-read
-sub-t22 c = omega (arith, c .before .read .inv .within)
+sub-t22 c = omega (arith, c .before .read .inv .few, c .before .read .inv .within)
 
 same-length : tie.Need-same-length Inv-read μ-read
 same-length c = let l = c .before in reads-long (capture l) (before l) (here l) (l .read .entries) (l .read .framed) (l .read .list) (l .read .inv) (room l)
