@@ -122,8 +122,8 @@ struct board_reading {
 /*
  * Every reply and measuring frame of a capture, in its order. Bytes that are no frame are skipped one at a
  * time, as board_bytes does; an unfinished frame at the end is left unread: give its bytes again with those
- * that follow. All that board_bytes and board_samples wrote is read back, nothing skipped.
- * list_len counts numbers; numbers behind the last entry are unchanged.
+ * that follow. Of a capture of whole frames, all that board_bytes and board_samples wrote is read back,
+ * nothing skipped. list_len counts numbers; numbers behind the last entry are unchanged.
  */
 struct board_reading board_read(const uint8_t *capture, size_t capture_len, uint32_t *list, size_t list_len);
 
@@ -193,7 +193,7 @@ struct board_reading board_read(const uint8_t *capture, size_t capture_len, uint
  * is whole, say so; a new board_factory would bring back the printed code.
  *
  * Threads. The archive keeps nothing between calls. Calls on different records may run at once, also in an
- * interrupt; two calls on the same record, or with the same output, may not.
+ * interrupt; two calls on the same record, or with the same output or list, may not.
  *
  * The archive is x86-64 code for the System V calling convention (SSE2, position independent). It calls
  * memset and nothing else, takes byte buffers at any alignment, and was measured to use at most 840
