@@ -166,6 +166,6 @@ struct left both_read(const struct captured *given) {
     return (struct left){good, lents[SECOND].answer, list_of(&lents[SECOND])};
 }
 
-struct left both_capture(const uint8_t *capture, size_t len) {
-    return both_read(&(struct captured){capture, len, NUMBERS * BOARD_ENTRIES(len), false});
+struct left both_capture(const uint8_t *capture, size_t len, size_t over) {
+    return both_read(&(struct captured){capture, len, NUMBERS * BOARD_ENTRIES(len) + over, false});
 }

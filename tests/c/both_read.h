@@ -29,7 +29,7 @@ void show_reading(const char *whose, struct board_reading answer, const uint32_t
 /* Counts the case and prints it if the two differ, or tell of frames that are not there. */
 struct left both_read(const struct captured *given);
 
-/* The same with just the list that the rule asks for. */
-struct left both_capture(const uint8_t *capture, size_t len);
+/* The same with the list that the rule asks for and so many numbers over. */
+struct left both_capture(const uint8_t *capture, size_t len, size_t over);
 
 #endif

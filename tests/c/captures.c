@@ -1,8 +1,7 @@
 /* Captures of what a board says: every frame around its end, torn, nested, written by the board and drawn. */
 #include "both_read.h"
-#include "frames.h"
 #include "parts.h"
-#include "record.h"
+#include "sessions.h"
 #include "tally.h"
 
 #include <string.h>
@@ -26,11 +25,11 @@ static void around_end(unsigned head, unsigned third, size_t size) {
     uint8_t bytes[SENT_MOST + 1];
     bytes[put_sent(bytes, head, third, size, 0x00)] = 0xAA;
     for (size_t len = size - 1; len <= size + 1; len++)
-        both_capture(bytes, len);
+        both_capture(bytes, len, 0);
     put_sent(bytes, head, third, size, 0x85);
     bytes[size - 1] ^= (uint8_t)(1u << third % 8);
     for (size_t len = size - 1; len <= size + 1; len++)
-        both_capture(bytes, len);
+        both_capture(bytes, len, 0);
 }
 
 /* Heads next to a measuring frame's have its size too. */
@@ -48,7 +47,7 @@ static void every_length_of(unsigned head, unsigned third, size_t size) {
     uint8_t bytes[SENT_MOST + 1];
     bytes[put_sent(bytes, head, third, size, 0x85)] = 0x00;
     for (size_t len = 0; len <= size + 1; len++)
-        both_capture(bytes, len);
+        both_capture(bytes, len, 0);
 }
 
 /* For the last three heads the third byte decides how long they wait, or that they do not. */
@@ -67,18 +66,21 @@ static void every_nest_of(unsigned head, unsigned third, size_t size) {
     static const struct inner {
         unsigned head, third;
         size_t size;
-    } inners[] = {{0x50, 0x00, 4}, {0x61, 0xAA, 5}, {0x6F, 0x00, 19}, {0x15, 0xB0, BOARD_FRAME_SIZE}};
-    uint8_t bytes[SENT_MOST + BOARD_FRAME_SIZE];
+    } inners[] = {{0x50, 0x00, 4},         {0x61, 0xAA, 5},
+                  {0x6F, 0x00, 19},        {0x5F, 0x00, 19},
+                  {0x5F, 0x01, 19 + 0x01}, {0x6F, 0x85, 19 + 0x85},
+                  {0x5F, 0xFF, SENT_MOST}, {0x15, 0xB0, BOARD_FRAME_SIZE}};
+    uint8_t bytes[2 * SENT_MOST];
     for (size_t i = 0; i < sizeof inners / sizeof *inners; i++) {
         for (size_t at = 1; at <= size; at++) {
             const size_t len = at + inners[i].size < size ? size : at + inners[i].size;
             put_sent(bytes, head, third, size, 0x00);
             put_sent(bytes + at, inners[i].head, inners[i].third, inners[i].size, 0xAA);
-            both_capture(bytes, len);
+            both_capture(bytes, len, 0);
             bytes[size - 1] ^= 0x85;
-            both_capture(bytes, len);
+            both_capture(bytes, len, 0);
             bytes[size - 1] = 0x85;
-            both_capture(bytes, len);
+            both_capture(bytes, len, 0);
         }
     }
 }
@@ -149,7 +151,7 @@ static void expect(bool good, const char *what, struct board_reading seen) {
 /* The longest capture, with counts worked out by hand. */
 static void count_most(const struct filling *filling, uint32_t entries, uint32_t skipped, uint32_t unread) {
     const struct board_reading seen =
-        both_capture(filled(BOARD_CAPTURE_MOST, filling), BOARD_CAPTURE_MOST).answer;
+        both_capture(filled(BOARD_CAPTURE_MOST, filling), BOARD_CAPTURE_MOST, 0).answer;
     const struct board_reading wanted = {BOARD_DONE, entries, skipped, unread};
     expect(same_reading(seen, wanted), "other counts than by hand", seen);
 }
@@ -162,78 +164,6 @@ static void every_most(void) {
     count_most(&torn, 0, 3824, 272);
     /* 146 times 28 are 4,088. */
     count_most(&measuring, 146, 0, 8);
-}
-
-/* What a program wrote, and what has to be read from it. */
-struct said {
-    uint8_t record[RECORD_SIZE], bytes[BOARD_CAPTURE_MOST + BOARD_ROOM(0, FRAME_MOST)];
-    uint32_t list[BOARD_CAPTURE_MOST];
-    size_t len, numbers;
-};
-
-/* One command or reading; false if what it brought does not fit any more. */
-static bool one_step(const struct program *program, struct said *said, enum call call, const uint8_t *input,
-                     size_t len) {
-    uint8_t *frame = said->bytes + said->len;
-    const struct request request = {
-        call, said->record, RECORD_SIZE, input, len, frame, BOARD_ROOM(0, FRAME_MOST)};
-    const size_t size = program->run(&request).written;
-    if (said->len + size > BOARD_CAPTURE_MOST)
-        return false;
-    if (size > 0) {
-        const uint32_t entry[NUMBERS] = {frame[1], frame[2], (uint32_t)said->len + 3, (uint32_t)size - 4};
-        memcpy(said->list + said->numbers, entry, sizeof entry);
-        said->numbers += NUMBERS;
-    }
-    said->len += size;
-    return true;
-}
-
-static void expect_read_back(const struct said *said) {
-    const struct left left = both_capture(said->bytes, said->len);
-    const struct board_reading wanted = {BOARD_DONE, (uint32_t)(said->numbers / NUMBERS), 0, 0};
-    expect(left.good && same_reading(left.answer, wanted) &&
-               memcmp(left.list, said->list, said->numbers * sizeof *said->list) == 0,
-           "not read back as it was written", left.answer);
-}
-
-/* Commands and readings until the capture is full; a program that writes nothing comes to an end too. */
-static void one_session(struct draw *draw, const struct program *program, const uint8_t *start) {
-    static struct said said;
-    uint8_t input[BOARD_SAMPLE_SIZE];
-    bool fits = true;
-    said.len = said.numbers = 0;
-    memcpy(said.record, start, RECORD_SIZE);
-    for (size_t steps = 0; fits && steps < BOARD_CAPTURE_MOST; steps++) {
-        if (draw_below(draw, 8) > 0) {
-            const size_t len = draw_frame(draw, input, said.record + AT_CODE);
-            fits = one_step(program, &said, CALL_BYTES, input, len);
-        } else {
-            for (size_t at = 0; at < sizeof input; at += FLOAT_SIZE)
-                draw_finite(draw, input + at);
-            fits = one_step(program, &said, CALL_SAMPLES, input, sizeof input);
-        }
-    }
-    expect_read_back(&said);
-}
-
-/* Both programs hold the same session; a full name and a full model make replies of 15 bytes. */
-static void every_session(struct draw *draw) {
-    enum { SESSIONS = 300 };
-    static const uint8_t text[] = "fifteen letters";
-    uint8_t start[RECORD_SIZE];
-    for (unsigned i = 0; i < SESSIONS; i++) {
-        draw_record(draw, start, 0, i % 2 == 0);
-        if (i % 4 != 0) {
-            field_set(start, field_named("name"), text, TEXT_MOST);
-            field_set(start, field_named("model"), text, TEXT_MOST);
-        }
-        const struct draw before = *draw;
-        for (size_t k = 0; k < PROGRAMS; k++) {
-            *draw = before;
-            one_session(draw, &programs[k], start);
-        }
-    }
 }
 
 /* An item of a drawn capture is at most so long. */
@@ -291,18 +221,19 @@ static bool are_of(const struct left *part, size_t from, const uint32_t *whole) 
 }
 
 /* What is unread is given again with what follows, and then nothing is lost by a cut. */
-static void one_cut(const uint8_t *capture, size_t len, size_t cut) {
+static void one_cut(struct draw *draw, const uint8_t *capture, size_t len) {
     static uint32_t list[BOARD_CAPTURE_MOST];
-    const struct left whole = both_capture(capture, len);
+    const size_t cut = draw_below(draw, (uint32_t)len + 1);
+    const struct left whole = both_capture(capture, len, draw_below(draw, NUMBERS));
     if (!whole.good)
         return;
     memcpy(list, whole.list, NUMBERS * whole.answer.entries * sizeof *list);
-    const struct left first = both_capture(capture, cut);
+    const struct left first = both_capture(capture, cut, draw_below(draw, NUMBERS));
     if (!first.good)
         return;
     const bool begun = are_of(&first, 0, list);
     const size_t from = cut - first.answer.unread;
-    const struct left rest = both_capture(capture + from, len - from);
+    const struct left rest = both_capture(capture + from, len - from, draw_below(draw, NUMBERS));
     const struct board_reading sum = {BOARD_DONE, first.answer.entries + rest.answer.entries,
                                       first.answer.skipped + rest.answer.skipped, rest.answer.unread};
     expect(begun && rest.good && same_reading(sum, whole.answer) &&
@@ -315,7 +246,7 @@ static void one_drawn(struct draw *draw) {
     const size_t most = draw_below(draw, 32) == 0 ? BOARD_CAPTURE_MOST : 1 + draw_below(draw, 400);
     for (size_t len = 0; len < most;)
         len += put_item(draw, capture + len);
-    one_cut(capture, most, draw_below(draw, (uint32_t)most + 1));
+    one_cut(draw, capture, most);
 }
 
 void run_captures(const struct settings *settings) {

@@ -17,7 +17,7 @@ static const struct part {
     {"tables", run_tables, 242},      {"commands", run_commands, 1193744},
     {"limits", run_limits, 11718},    {"changes", run_changes, 1983786},
     {"hunts", run_hunts, 23562},      {"readings", run_readings, 725868},
-    {"streams", run_streams, 200000}, {"captures", run_captures, 771438},
+    {"streams", run_streams, 200000}, {"captures", run_captures, 814014},
 };
 
 static int usage(void) {
