@@ -129,12 +129,16 @@ int capture_bytes(struct capture *capture, const uint8_t *bytes, size_t len) {
     return EXIT_DONE;
 }
 
-struct stretch capture_unread(const struct capture *capture) {
+static struct stretch unread(const struct capture *capture) {
     return stretch(capture, capture->held, capture->len);
+}
+
+void capture_unread(const struct capture *capture) {
+    report_unread(&capture->report, stretch(capture, 0, capture->held), unread(capture));
 }
 
 void capture_end(struct capture *capture) {
     take_skipped(capture, 0, capture->held, capture->len, false);
     report_skipped(&capture->report);
-    report_end(&capture->report, capture_unread(capture));
+    report_end(&capture->report, unread(capture));
 }

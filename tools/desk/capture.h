@@ -15,9 +15,10 @@ struct capture {
 /* The next bytes, however many. Returns how the program would end. */
 int capture_bytes(struct capture *capture, const uint8_t *bytes, size_t len);
 
-/* The bytes so far that the library leaves unread. */
-struct stretch capture_unread(const struct capture *capture);
+/* Tells the bytes so far that the library leaves unread. */
+void capture_unread(const struct capture *capture);
 
+/* Tells the rest and the sum of all. */
 void capture_end(struct capture *capture);
 
 #endif

@@ -91,7 +91,7 @@ static int take_line(struct feed *feed, struct line line) {
     if (!feed->whole || !good)
         report_skipped(&feed->capture.report);
     if (feed->terminal)
-        report_unread(&feed->capture.report, capture_unread(&feed->capture));
+        capture_unread(&feed->capture);
     fflush(stdout);
     feed->lines++;
     if (!good)
@@ -134,7 +134,8 @@ static int take_all(struct feed *feed) {
         return unreadable(feed->name);
     if (feed->terminal)
         puts("");
-    if (status == EXIT_DONE)
+    /* where the library is not understood nothing more can be told */
+    if (status != EXIT_REFUSED)
         capture_end(&feed->capture);
     return status;
 }

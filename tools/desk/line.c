@@ -10,8 +10,8 @@ static const struct {
     const char *text;
     enum word word;
 } words[] = {
-    {"factory", WORD_FACTORY}, {"power-on", WORD_POWER_ON}, {"sample", WORD_SAMPLE},
-    {"show", WORD_SHOW},       {"help", WORD_HELP},         {"quit", WORD_QUIT},
+    {"factory", WORD_FACTORY}, {"power-on", WORD_POWER_ON}, {"sample", WORD_SAMPLE}, {"show", WORD_SHOW},
+    {"help", WORD_HELP},       {"quit", WORD_QUIT},         {"read", WORD_READ},
 };
 
 /* Bytes that only go on a character of UTF-8 are not counted. */
@@ -70,6 +70,10 @@ enum word line_word(struct line line, size_t *behind) {
     }
     *behind = 0;
     return WORD_NONE;
+}
+
+void line_misplaced(struct line line, struct line_fault *fault) {
+    wrong(fault, line, skip_blanks(line, 0), "read is a word for the command line: ./desk read FILE");
 }
 
 bool line_ends(struct line line, size_t at, struct line_fault *fault) {

@@ -18,10 +18,13 @@ struct line_fault {
     bool letter; /* a letter or sign that may have been meant as a word */
 };
 
-enum word { WORD_NONE, WORD_FACTORY, WORD_POWER_ON, WORD_SAMPLE, WORD_SHOW, WORD_HELP, WORD_QUIT };
+enum word { WORD_NONE, WORD_FACTORY, WORD_POWER_ON, WORD_SAMPLE, WORD_SHOW, WORD_HELP, WORD_QUIT, WORD_READ };
 
 /* The word that a line starts with; *behind is where it ends. */
 enum word line_word(struct line line, size_t *behind);
+
+/* The fault of a line that starts with a word for the command line. */
+void line_misplaced(struct line line, struct line_fault *fault);
 
 /* Whether only blanks or a remark stand from a place on. */
 bool line_ends(struct line line, size_t at, struct line_fault *fault);

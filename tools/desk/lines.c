@@ -50,7 +50,9 @@ static int take_word(struct session *session, enum word word, struct line line, 
         return take_sample(session, line, at, fault);
     if (word == WORD_SHOW)
         return take_show(session, line, at, fault);
-    if (!line_ends(line, at, fault))
+    if (word == WORD_READ)
+        line_misplaced(line, fault);
+    if (word == WORD_READ || !line_ends(line, at, fault))
         return EXIT_USAGE;
     if (word == WORD_FACTORY)
         return session_factory(session);

@@ -8,72 +8,71 @@
 
 static const char *plural(size_t count) { return count == 1 ? "" : "s"; }
 
-/* In hex on as many lines as it takes, the words behind the last. */
-static void tell_frame(struct stretch frame, const char *words, enum tone tone) {
-    char hex[2 + 3 * BOARD_FRAME_SIZE] = "  ";
-    size_t at = 0;
-    for (; frame.len - at > BOARD_FRAME_SIZE; at += BOARD_FRAME_SIZE) {
-        hex_words(frame.bytes + at, BOARD_FRAME_SIZE, hex + 2);
-        screen_line(hex, TONE_PLAIN);
+/* Hex on as many lines as it takes, the words behind the last. */
+static void tell_frame(const char *hex, const char *words, enum tone tone) {
+    enum { WIDTH = 3 * BOARD_FRAME_SIZE };
+    char row[2 + WIDTH];
+    for (; strlen(hex) >= WIDTH; hex += WIDTH) {
+        sprintf(row, "  %.*s", WIDTH - 1, hex);
+        screen_line(row, TONE_PLAIN);
     }
-    hex_words(frame.bytes + at, frame.len - at, hex + 2);
-    screen_row(hex, words, tone);
-}
-
-static void tell_hex(struct stretch frame) {
-    char hex[3 * SAID_MOST];
-    hex_words(frame.bytes, frame.len, hex);
-    screen_line(hex, TONE_PLAIN);
-}
-
-/* Whatever was skipped is over. */
-static void end_row(struct report *report) {
-    report_skipped(report);
-    report->last = 0;
-    report->hidden = 0;
+    sprintf(row, "  %.*s", WIDTH - 1, hex);
+    screen_row(row, words, tone);
 }
 
 void report_frame(struct report *report, struct stretch frame) {
     const bool measuring = frame.bytes[AT_HEAD] == MEASURING;
     char words[SAID_WORDS_MOST];
-    end_row(report);
+    struct veiled veiled;
+    report_skipped(report);
     report->frames++;
-    said_words(frame, report->unanswered == 1 ? report->command : NULL, words);
+    veil_frame(frame.bytes, frame.len, &veiled);
+    said_words(frame, &veiled, report->unanswered == 1 ? report->command : NULL, words);
     if (report->hex)
-        tell_hex(frame);
+        screen_line(veiled.hex, TONE_PLAIN);
     else
-        tell_frame(frame, words, measuring || said_status(frame) == STATUS_DONE ? TONE_GOOD : TONE_BAD);
+        tell_frame(veiled.hex, words, measuring || said_status(frame) == STATUS_DONE ? TONE_GOOD : TONE_BAD);
     if (!measuring)
         report->unanswered = 0;
+    /* a code that was begun before it, or in it, goes on behind it */
+    if (report->veil.left < veiled.left)
+        report->veil.left = veiled.left;
+}
+
+/* A command of another number may be torn, and a command with a code stand in it. */
+static bool is_torn(struct stretch frame, const struct veiled *veiled) {
+    return veiled->hidden > 0 && !takes_code(KIND_OF(frame.bytes[AT_HEAD]), frame.bytes[AT_NUMBER]);
+}
+
+static void command_words(struct stretch frame, bool torn, char *words) {
+    words += sprintf(words, "byte %zu, command: ", frame.place);
+    if (torn)
+        sprintf(words, "%s command %02X, and a code may stand in it",
+                kind_words(KIND_OF(frame.bytes[AT_HEAD])), frame.bytes[AT_NUMBER]);
+    else
+        request_words(frame.bytes, words);
 }
 
 void report_command(struct report *report, struct stretch frame) {
-    char hex[3 * FRAME_MOST], words[2 * WORDS_MOST];
-    end_row(report);
+    char words[2 * WORDS_MOST];
+    struct veiled veiled;
+    report_skipped(report);
+    veil_frame(frame.bytes, frame.len, &veiled);
+    const bool torn = is_torn(frame, &veiled);
     report->skipped += frame.len;
     report->in_commands += frame.len;
-    report->unanswered++;
+    /* the meaning of a reply to it would tell its bytes */
+    report->unanswered += torn ? 2 : 1;
+    report->veil = (struct veil){.left = veiled.left};
     memcpy(report->command, frame.bytes, frame.len);
-    frame_hex(frame.bytes, frame.len, hex);
-    request_words(frame.bytes, words + sprintf(words, "place %zu, command: ", frame.place));
+    command_words(frame, torn, words);
     if (!report->hex)
-        screen_row(hex, words, TONE_PLAIN);
-}
-
-/* Behind a head and the number of a code stand so many bytes of it, also if the frame is not whole. */
-static bool is_hidden(struct report *report, uint8_t byte) {
-    const bool hidden = report->hidden > 0;
-    if (hidden)
-        report->hidden--;
-    else if (takes_code(KIND_OF(report->last), byte))
-        report->hidden = COUNT_OF(report->last);
-    report->last = byte;
-    return hidden;
+        screen_row(veiled.hex, words, TONE_PLAIN);
 }
 
 static void show_byte(struct report *report, uint8_t byte) {
     struct lost *lost = &report->lost;
-    const bool hidden = is_hidden(report, byte);
+    const bool hidden = veil_hides(&report->veil, byte);
     if (lost->bytes++ >= SHOWN_MOST)
         return;
     char *hex = lost->hex + strlen(lost->hex);
@@ -92,13 +91,14 @@ void report_skip(struct report *report, struct stretch bytes) {
     report->unanswered = 0;
 }
 
+/* Of a head among the bytes of a code the words would tell them. */
 void report_head(struct report *report, struct stretch front, enum why why) {
-    if (report->lost.heads++ == 0)
+    if (report->veil.left == 0 && report->lost.heads++ == 0)
         why_words(front, why, report->lost.words);
 }
 
 static void lost_words(const struct lost *lost, char *words) {
-    words += sprintf(words, "%zu byte%s skipped at place %zu:%s", lost->bytes, plural(lost->bytes),
+    words += sprintf(words, "%zu byte%s skipped at byte %zu:%s", lost->bytes, plural(lost->bytes),
                      lost->place, lost->hex);
     if (lost->bytes > SHOWN_MOST)
         words += sprintf(words, " and %zu more", lost->bytes - SHOWN_MOST);
@@ -118,22 +118,29 @@ void report_skipped(struct report *report) {
     report->lost = (struct lost){.bytes = 0};
 }
 
-static void waiting_row(struct stretch unread, char *words) {
+static void waiting_row(struct veil veil, struct stretch unread, char *words) {
     const size_t shown = unread.len < SHOWN_MOST ? unread.len : SHOWN_MOST;
+    const bool hidden = veil.left > 0;
     char hex[3 * SHOWN_MOST];
-    hex_words(unread.bytes, shown, hex);
-    words += sprintf(words, "%zu byte%s unread at place %zu: %s", unread.len, plural(unread.len),
-                     unread.place, hex);
+    veil_hex(&veil, unread.bytes, shown, hex);
+    words += sprintf(words, "%zu byte%s unread at byte %zu: %s", unread.len, plural(unread.len), unread.place,
+                     hex);
     if (unread.len > shown)
         words += sprintf(words, " and %zu more", unread.len - shown);
-    unread_words(unread, words + sprintf(words, "; "));
+    if (hidden)
+        strcpy(words, "; a code may go on there");
+    else
+        unread_words(unread, words + sprintf(words, "; "));
 }
 
-void report_unread(const struct report *report, struct stretch unread) {
+void report_unread(const struct report *report, struct stretch held, struct stretch unread) {
     char words[2 * WORDS_MOST];
+    struct veil veil = report->veil;
     if (unread.len == 0)
         return;
-    waiting_row(unread, words);
+    for (size_t i = 0; i < held.len; i++)
+        veil_hides(&veil, held.bytes[i]);
+    waiting_row(veil, unread, words);
     if (report->hex)
         fprintf(stderr, "desk: %s\n", words);
     else
@@ -151,7 +158,7 @@ void report_end(const struct report *report, struct stretch unread) {
     fflush(stdout);
     if (report->hex && report->skipped > 0)
         fprintf(stderr, "desk: %s\n", skipped);
-    report_unread(report, unread);
+    report_unread(report, (struct stretch){NULL, 0, 0}, unread);
     sprintf(words, "%zu frame%s of the board, %s, %zu byte%s unread", report->frames, plural(report->frames),
             skipped, unread.len, plural(unread.len));
     if (!report->hex)

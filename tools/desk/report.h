@@ -3,6 +3,7 @@
 #define REPORT_H
 
 #include "said.h"
+#include "veil.h"
 
 enum { SHOWN_MOST = 16 };
 
@@ -16,8 +17,7 @@ struct lost {
 struct report {
     bool hex; /* bytes of the board's frames only */
     struct lost lost;
-    uint8_t last;                /* the last byte skipped */
-    size_t hidden;               /* so many bytes behind it are a code */
+    struct veil veil;            /* over the bytes skipped */
     size_t unanswered;           /* commands since the last reply */
     uint8_t command[FRAME_MOST]; /* the last of them */
     size_t frames, skipped, in_commands;
@@ -36,8 +36,8 @@ void report_skipped(struct report *report);
 /* A head that the next skipped byte starts. */
 void report_head(struct report *report, struct stretch front, enum why why);
 
-/* Nothing is told if nothing is unread. */
-void report_unread(const struct report *report, struct stretch unread);
+/* Nothing is told if nothing is unread. Bytes that are held in front of it are told later. */
+void report_unread(const struct report *report, struct stretch held, struct stretch unread);
 
 /* The sum of all; with the bytes of frames only, on standard error. */
 void report_end(const struct report *report, struct stretch unread);

@@ -33,33 +33,34 @@ static size_t reply_kind(struct stretch frame, char *words) {
     return (size_t)sprintf(words, "long %s reply, %zu bytes of data, ", kind, frame.len - FRAME_AROUND);
 }
 
-/* Text as text too; the hex of a long reply is left to its frame. */
-static void data_words(struct stretch frame, char *words) {
+/* Text as text too, which no data with a code are; the hex of a long reply is left to its frame. */
+static void data_words(struct stretch frame, const struct veiled *veiled, char *words) {
     const uint8_t *data = frame.bytes + AT_DATA;
     const size_t count = frame.len - FRAME_AROUND, text = text_len(data, count);
     *words = '\0';
-    if (count > 0 && !is_long(frame)) {
-        hex_words(data, count, words + sprintf(words, ", data "));
-        words += strlen(words);
-    }
+    if (count > 0 && !is_long(frame))
+        words += sprintf(words, ", data %.*s", (int)(3 * count - 1), veiled->hex + 3 * AT_DATA);
     if (text > 0)
         quoted_words(data, text, words + sprintf(words, ", "));
 }
 
-static void said_reply_words(struct stretch frame, const uint8_t *command, char *words) {
+static void said_reply_words(struct stretch frame, const struct veiled *veiled, const uint8_t *command,
+                             char *words) {
     words += reply_kind(frame, words);
-    if (command != NULL && answer_words(command, frame.bytes, frame.len, words))
+    if (command != NULL && veiled->hidden == 0 && answer_words(command, frame.bytes, frame.len, words))
         return;
     status_words(said_status(frame), words);
-    data_words(frame, words + strlen(words));
+    data_words(frame, veiled, words + strlen(words));
 }
 
-void said_words(struct stretch frame, const uint8_t *command, char *words) {
-    words += sprintf(words, "place %zu, ", frame.place);
-    if (frame.bytes[AT_HEAD] == MEASURING)
-        numbers_words("measuring frame: ", frame.bytes + AT_DATA, words);
+void said_words(struct stretch frame, const struct veiled *veiled, const uint8_t *command, char *words) {
+    words += sprintf(words, "byte %zu, ", frame.place);
+    if (frame.bytes[AT_HEAD] != MEASURING)
+        said_reply_words(frame, veiled, command, words);
+    else if (veiled->hidden > 0)
+        strcpy(words, "measuring frame, and a code may stand in it");
     else
-        said_reply_words(frame, command, words);
+        numbers_words("measuring frame: ", frame.bytes + AT_DATA, words);
 }
 
 /* What a head announces, and the bytes that it takes. */

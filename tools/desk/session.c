@@ -9,7 +9,7 @@
 
 int session_refused(const char *call, unsigned result) {
     fflush(stdout);
-    fprintf(stderr, "desk: the %s call is refused with %u: %s\n", call, result, result_words(result));
+    fprintf(stderr, "desk: the %s call is refused with %u: %s\n", call, result, result_words(call, result));
     return EXIT_REFUSED;
 }
 

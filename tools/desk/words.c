@@ -180,14 +180,14 @@ void frame_hex(const uint8_t *frame, size_t len, char *hex) {
         memcpy(hex + 3 * i, "..", 2);
 }
 
-const char *result_words(unsigned result) {
+const char *result_words(const char *call, unsigned result) {
     switch (result) {
     case BOARD_BAD_RECORD:
         return "the record is not 123 bytes or not well formed";
     case BOARD_BAD_LENGTH:
         return "the input has a wrong length";
     case BOARD_NO_ROOM:
-        return "too little room for the output";
+        return strcmp(call, "read") == 0 ? "too little room for the list" : "too little room for the output";
     case BOARD_NOT_FINITE:
         return "a sample is infinite or not a number";
     default:
