@@ -10,12 +10,12 @@ use lib.ListN.{length, getD, List·getD-eq-default}
 use lib.Dec.{ltb, eqb}
 use borrow.Author.Tests.{lt-ltb, le-leb, lt-leb, eq-eqb, ne-eqb, eqb-true, ltb-true, ltb-false}
 use Rattle.wire.specs.Numbers.{wordAt}
-use Rattle.wire.specs.Frames.{Whole, Broken, stop, cutFrom, cut}
+use Rattle.wire.specs.Frames.{Whole, Broken}
 use Rattle.wire.specs.Serial.{serial, headOf, numberOf, paramsOf}
 use Rattle.wire.specs.Replies.{Reply, kindOf, replyBytes, repliesBytes}
 use Rattle.wire.specs.Run.{runs, hunt}
 use Rattle.wire.proofs.NumberLaws.{part-all}
-use Rattle.wire.proofs.CutLaws.{cut-wait, cut-skip, cut-take, cut-tear}
+use Rattle.wire.proofs.CutLaws.{cut-over, cut-wait, cut-skip, cut-take, cut-tear}
 use Rattle.wire.proofs.SerialLaws.{look-lines}
 use Rattle.wire.proofs.RunLaws.{runs-append}
 use Rattle.wire.proofs.PutLaws.{put-zero}
@@ -114,11 +114,6 @@ before-reading r f range none legal = each-frame r f .effect ReadPair legal ∙ 
 
 -- ---- the hunt
 
-over : (l : List ℕ) → length l ≡ 0 → cut serial l ≡ stop []
-unfolding cutFrom
-over [] e = refl
-over (x ∷ l) e = absurd (omega arith)
-
 module _ (l : List ℕ) where
   hunted : SixLines l
   hunted = record {
@@ -132,7 +127,7 @@ module _ (l : List ℕ) where
     broken = λ h n e.
         cut-tear serial l
         (look-lines l ∙ rw (eq-eqb (getD l 0 0) 0xAA (h .0), lt-ltb 1 (length l) (h .1), h .2, le-leb (4 + announced l) (length l) n, ne-eqb (getD l (3 + announced l) 0) 0x85 e) refl);
-    over = over l;
+    over = cut-over serial l;
   }
 
 -- ---- its pieces

@@ -28,7 +28,7 @@ use Rattle.call.specs.Read.{readEntries, readCall}
 use Rattle.demands.specs.CallList.{Name, Factory, PowerOn, BytesIn, SamplesIn, callOf, Made, outcomeOf}
 use Rattle.demands.specs.Secrecy.{AllOfBytes, sixZeros}
 use Rattle.demands.specs.Reader.{readReasons}
-use Rattle.demands.specs.ReadBack.{Said, Replied, Measured, replied, meantBy, meant, allMeant, allWrote, Tells, AllTell, ReadsBack, ReadBack, named, SomethingSaid}
+use Rattle.demands.specs.ReadBack.{Said, Replied, Measured, replied, meantBy, meant, allMeant, allWrote, Tells, AllTell, ReadsBack, ReadBack, nameGiven, SomethingSaid}
 use Rattle.demands.proofs.Tests.{well, settled}
 use Rattle.demands.proofs.Laws.{ends-by, unspoken, bytes-by}
 use Rattle.demands.proofs.FactoryLaws.{factory-done}
@@ -200,4 +200,4 @@ small-bytes (x ∷ l) e (suc i) = small-bytes l (and-eq-true-iff (ltb x 256) (sm
 
 pub something-said : SomethingSaid
 unfolding bytesCall samplesCall replied huntOf bytesOf recordOf factory
-something-said = record { of-bytes = (small-bytes named refl, (small-bytes sixZeros refl, tt)); said = refl; wrote = refl }
+something-said = record { of-bytes = (small-bytes nameGiven refl, (small-bytes sixZeros refl, tt)); said = refl; wrote = refl }

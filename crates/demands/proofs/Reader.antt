@@ -10,10 +10,10 @@ use lib.Seq.{length-take-le, drop-at, drop-drop}
 use lib.Dec.{eqb}
 use borrow.Author.Tests.{le-leb, lt-leb, eq-eqb, ne-eqb}
 use Rattle.wire.specs.Sizes.{captureMost}
-use Rattle.wire.specs.Frames.{Heads, Look, Skip, Wait, Take, Tear, look, Cut, stop, onward, cutFrom, cut, sizes, Placed, placedOn, placedFrom}
+use Rattle.wire.specs.Frames.{Heads, Look, Skip, Wait, Take, Tear, look, Cut, onward, cutFrom, cut, sizes, Placed, placedOn, placedFrom}
 use Rattle.wire.specs.Serial.{endsIn85}
 use Rattle.wire.specs.Reader.{isReply, isLong, readerHead, reader, Entry, entryOf, entriesOf, listOf}
-use Rattle.wire.proofs.CutLaws.{take-room, look-headless, look-unsaid, look-unfinished, cut-wait, cut-skip, cut-take, cut-tear, conserved}
+use Rattle.wire.proofs.CutLaws.{take-room, look-headless, look-unsaid, look-unfinished, cut-over, cut-wait, cut-skip, cut-take, cut-tear, conserved}
 use Rattle.wire.proofs.SerialLaws.{size-other}
 use Rattle.wire.proofs.ReaderLaws.{third-long, third-measuring, third-other, reader-is, read-alone, read-unsaid, read-third, read-reply, read-none, read-torn, read-frame}
 use Rattle.wire.proofs.EntryLaws.{length-list, entries-put}
@@ -146,6 +146,8 @@ module _ (capture list : List ℕ) where
     read-properly = record {
       listed = entries-put es list;
       named = named-from capture 0 0 capture refl;
+      skipped = refl;
+      unread = refl;
       conserved = add-up;
       inside = behind-from reader 0 0 capture 0 (length capture - length (cut reader capture .waiting)) (omega arith) (omega arith) (omega (arith, add-up));
       length-kept = length-put list 0 (listOf es) (omega (arith, fits));
@@ -175,11 +177,6 @@ third-by-15 b e = rw e refl
 third-not : (b : ℕ) → b ≢ 0x15 → b ≢ 0x5F → b ≢ 0x6F → byThird b ≡ false
 third-not b m g h = rw (long-not b g h, ne-eqb b 0x15 m) refl
 
-over : (l : List ℕ) → length l ≡ 0 → cut reader l ≡ stop []
-unfolding cutFrom
-over [] e = refl
-over (x ∷ l) e = absurd (omega arith)
-
 module _ (l : List ℕ) where
   abbrev b : ℕ
   b = second l
@@ -199,7 +196,7 @@ module _ (l : List ℕ) where
     unfinished = λ n e h. cut-wait reader l (look-unfinished reader l n e h);
     frame = λ n e h t. cut-take reader n l (read-frame l 0 n e (omega arith) t);
     broken = λ n e h t. cut-tear reader l (read-torn l 0 n e (omega arith) t);
-    over = over l;
+    over = cut-over reader l;
   }
 
 rows-read : RowsRead readRows

@@ -86,11 +86,11 @@ ReadBack = (calls : List Made) (s list : List ℕ) → Bytes s → AllOfBytes ca
 abbrev pub fullName : List ℕ
 fullName = 0x66 ∷ 0x69 ∷ 0x66 ∷ 0x74 ∷ 0x65 ∷ 0x65 ∷ 0x6E ∷ 0x20 ∷ 0x6C ∷ 0x65 ∷ 0x74 ∷ 0x74 ∷ 0x65 ∷ 0x72 ∷ 0x73 ∷ []
 
-abbrev pub named : List ℕ
-named = openFrame ++ (0xAA ∷ 0xAF ∷ 0xE9 ∷ fullName ++ (0x85 ∷ 0xAA ∷ 0xA0 ∷ 0xE8 ∷ 0x85 ∷ 0xAA ∷ 0xA0 ∷ 0xE1 ∷ 0x85 ∷ []))
+abbrev pub nameGiven : List ℕ
+nameGiven = openFrame ++ (0xAA ∷ 0xAF ∷ 0xE9 ∷ fullName ++ (0x85 ∷ 0xAA ∷ 0xA0 ∷ 0xE8 ∷ 0x85 ∷ 0xAA ∷ 0xA0 ∷ 0xE1 ∷ 0x85 ∷ []))
 
 abbrev pub visit : List Made
-visit = record { name = BytesIn; lent = record { input = named; output = replicate 190 0x00 } } ∷ record { name = SamplesIn; lent = record { input = sixZeros; output = frameRoom } } ∷ []
+visit = record { name = BytesIn; lent = record { input = nameGiven; output = replicate 190 0x00 } } ∷ record { name = SamplesIn; lent = record { input = sixZeros; output = frameRoom } } ∷ []
 
 -- Four replies, the third of which is the full name, and a reading: 61 bytes.
 pub record SomethingSaid : Type 0 where

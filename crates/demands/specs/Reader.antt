@@ -49,7 +49,10 @@ pub record ReadProperly (capture list : List ℕ) (z : ReadOutcome) : Type 0 whe
   pub listed : entriesIn (z .answer .entries) (z .list) ≡ readEntries capture
   -- there is one for each frame of the capture, in order
   pub named : AllNamed capture (readEntries capture) (cut reader capture .pieces)
-  -- skipped bytes, the frames of entries and unread bytes add up to the capture
+  -- the counts are those of the cut,
+  pub skipped : z .answer .skipped ≡ cut reader capture .skipped
+  pub unread : z .answer .unread ≡ length (cut reader capture .waiting)
+  -- and skipped bytes, the frames of entries and unread bytes add up to the capture
   pub conserved : z .answer .skipped + entrySizes (readEntries capture) + z .answer .unread ≡ length capture
   -- entries point inside the capture, one behind the other, before what is unread
   pub inside : Behind 0 (length capture - z .answer .unread) (readEntries capture)

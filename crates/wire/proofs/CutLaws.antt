@@ -133,6 +133,10 @@ module _ (h : Heads) where
   unfolding cutFrom
   cut-nil = refl
 
+  pub cut-over : (l : List ℕ) → length l ≡ 0 → cut h l ≡ stop []
+  cut-over [] e = cut-nil
+  cut-over (x ∷ l) e = absurd (omega arith)
+
   pub cut-wait : (l : List ℕ) → look h l ≡ Wait → cut h l ≡ stop l
   cut-wait [] e = cut-nil
   cut-wait (x ∷ l) e = cut-onward x l ∙ rw e refl
