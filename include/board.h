@@ -27,10 +27,10 @@ extern "C" {
  */
 
 /* This header's version; the packages in pkgconfig/ and cmake/ have the same. */
-#define BOARD_VERSION_MAJOR 1
-#define BOARD_VERSION_MINOR 1
+#define BOARD_VERSION_MAJOR 2
+#define BOARD_VERSION_MINOR 0
 #define BOARD_VERSION_PATCH 0
-#define BOARD_VERSION "1.1.0"
+#define BOARD_VERSION "2.0.0"
 
 /*
  * An archive with another record than this header's refuses board_factory with BOARD_BAD_RECORD, or leaves
@@ -65,12 +65,17 @@ enum board_result {
 };
 
 /*
- * What a call over a record returns: a result, bytes written to the output, bytes that the hunt skipped.
- * A refusal (any result but BOARD_DONE) has zero counts and has written to no buffer.
- * Output behind the written bytes is unchanged.
+ * What a call over a record returns: a result, bytes written to the output, bytes that the hunt skipped, and
+ * where the record is bad. A refusal (any result but BOARD_DONE) has zero counts and has written to no
+ * buffer. Output behind the written bytes is unchanged.
+ *
+ * With BOARD_BAD_RECORD, place is where the first faulty field starts, in record order: one of the BOARD_AT_
+ * names below, BOARD_AT_INPUT_TYPE(channel) or BOARD_AT_PAIR(channel). It is the place of the field, not of a
+ * byte in it. A record of another length than 123 bytes has its fault at BOARD_AT_LENGTH, which is 0. No code
+ * is a fault. With every other result, and from board_factory always, place is 0.
  */
 struct board_answer {
-    uint32_t result, written, skipped;
+    uint32_t result, written, skipped, place;
 };
 
 /* Writes a new record over any 123 bytes. */
@@ -174,11 +179,13 @@ struct board_reading board_read(const uint8_t *capture, size_t capture_len, uint
 /* 1 if output k (1 to 4) is on, else 0. */
 #define BOARD_OUTPUT(record, k) ((record)[BOARD_AT_OUTPUTS] >> ((k)-1) & 1)
 
-/* The input type of a channel (2 to 6). */
-#define BOARD_INPUT_TYPE(record, channel) ((record)[BOARD_AT_INPUT_TYPES + (channel)-2])
+/* Where the input type of a channel (2 to 6) stands, and the type. */
+#define BOARD_AT_INPUT_TYPE(channel) (BOARD_AT_INPUT_TYPES + (channel)-2)
+#define BOARD_INPUT_TYPE(record, channel) ((record)[BOARD_AT_INPUT_TYPE(channel)])
 
-/* Where the greatest and the smallest value of a channel (1 to 6) start, 4 bytes each. */
-#define BOARD_AT_GREATEST(channel) (BOARD_AT_PAIRS + BOARD_PAIR_SIZE * ((channel)-1))
+/* Where the pair of a channel (1 to 6) starts: its greatest and its smallest value, 4 bytes each. */
+#define BOARD_AT_PAIR(channel) (BOARD_AT_PAIRS + BOARD_PAIR_SIZE * ((channel)-1))
+#define BOARD_AT_GREATEST(channel) BOARD_AT_PAIR(channel)
 #define BOARD_AT_SMALLEST(channel) (BOARD_AT_GREATEST(channel) + 4)
 
 /*
