@@ -13,7 +13,7 @@ pub fn answer_factory(rec: &mut [u8]) -> Answer
     ensures { λ a. ⌜ Leaves (factoryCall (now (rec .entry))) a (now (rec .exit)) [] ⌝ }
 {
     if rec.len() != RECORD_SIZE {
-        return ended(Ending::BadRecord);
+        return ended(Ending::BadRecord(0));
     }
     write_factory(rec);
     ended(Ending::Done)

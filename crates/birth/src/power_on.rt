@@ -5,6 +5,7 @@ ghost use Rattle.call.specs.Calls.{powerOnCall};
 use call::Answer;
 use call::Ending;
 use call::ended;
+use fault::fault_of;
 use form::form_of;
 use parts::fresh::power_on;
 use record::Form;
@@ -14,7 +15,7 @@ pub fn answer_power_on(rec: &mut [u8]) -> Answer
     ensures { λ a. ⌜ Leaves (powerOnCall (now (rec .entry))) a (now (rec .exit)) [] ⌝ }
 {
     let Form::Good = form_of(rec) else {
-        return ended(Ending::BadRecord);
+        return ended(Ending::BadRecord(fault_of(rec)));
     };
     power_on(rec);
     ended(Ending::Done)

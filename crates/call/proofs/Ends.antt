@@ -11,7 +11,7 @@ use Rattle.wire.specs.Numbers.{Bytes}
 use Rattle.wire.proofs.PutLaws.{put-nil}
 use Rattle.peak.proofs.PairLaws.{both}
 use Rattle.record.specs.Layout.{current, recordSize, bytesOf, recordOf}
-use Rattle.record.specs.Form.{fieldsIn, allFine, wellFormed, formBy, formOf}
+use Rattle.record.specs.Form.{fieldsIn, allFine, wellFormed, faultOf, formBy, formOf}
 use Rattle.record.specs.Births.{factory, poweredOn}
 use Rattle.record.specs.InPlace.{Sound, Turns}
 use Rattle.record.specs.declared.Form.the-variants.{Good, Bad}
@@ -48,15 +48,15 @@ good-sound s b e = record { fit = in-range s b (good-well s e); same = sym (writ
 -- ---- factory and power-on
 
 module _ (s : List ℕ) (a : Answer) where
-  pub factory-refuses : (length s ≡ recordSize → ⊥) → a ≡ noCounts BadRecord → Leaves (factoryCall s) a s []
-  factory-refuses h e = left (factoryCall s) (refused BadRecord s []) (factory-by s ∙ rw (ne-eqb (length s) recordSize h) refl) a s [] e refl refl
+  pub factory-refuses : (length s ≡ recordSize → ⊥) → a ≡ noCounts (BadRecord 0) → Leaves (factoryCall s) a s []
+  factory-refuses h e = left (factoryCall s) (refused (BadRecord 0) s []) (factory-by s ∙ rw (ne-eqb (length s) recordSize h) refl) a s [] e refl refl
 
   pub factory-ends : length s ≡ recordSize → (t : List ℕ) → t ≡ bytesOf factory → a ≡ noCounts Done → Leaves (factoryCall s) a t []
   factory-ends h t q e =
       left (factoryCall s) (refused Done (bytesOf factory) []) (factory-by s ∙ rw (eq-eqb (length s) recordSize h, put-nil [] 0) refl) a t [] e q refl
 
-  pub power-on-refuses : formOf s ≡ Bad → a ≡ noCounts BadRecord → Leaves (powerOnCall s) a s []
-  power-on-refuses h e = left (powerOnCall s) (refused BadRecord s []) (power-on-by s ∙ rw h refl) a s [] e refl refl
+  pub power-on-refuses : formOf s ≡ Bad → a ≡ noCounts (BadRecord (faultOf s)) → Leaves (powerOnCall s) a s []
+  power-on-refuses h e = left (powerOnCall s) (refused (BadRecord (faultOf s)) s []) (power-on-by s ∙ rw h refl) a s [] e refl refl
 
   pub power-on-ends : Bytes s → formOf s ≡ Good → (t : List ℕ) → Turns s t (λ r. poweredOn r) → a ≡ noCounts Done → Leaves (powerOnCall s) a t []
   power-on-ends b h t q e =

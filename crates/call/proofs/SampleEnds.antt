@@ -9,7 +9,7 @@ use Rattle.wire.specs.Numbers.{put}
 use Rattle.wire.proofs.PutLaws.{put-nil}
 use Rattle.peak.specs.Pairs.{allFinite}
 use Rattle.record.specs.Layout.{channels, bytesOf, recordOf}
-use Rattle.record.specs.Form.{formOf}
+use Rattle.record.specs.Form.{faultOf, formOf}
 use Rattle.record.specs.Reading.{readingOf}
 use Rattle.record.specs.declared.Form.the-variants.{Good, Bad}
 use Rattle.call.specs.declared.Answer.{Answer}
@@ -20,8 +20,8 @@ use Rattle.call.specs.Calls.{sampleSize, measuringSize, measuringFrame, 
 use Rattle.call.proofs.Unfolded.{samples-by}
 
 module _ (s sample o : List ℕ) (a : Answer) where
-  pub bad-record : formOf s ≡ Bad → a ≡ noCounts BadRecord → Leaves (samplesCall s sample o) a s o
-  bad-record h e = left (samplesCall s sample o) (refused BadRecord s o) (samples-by s sample o ∙ rw h refl) a s o e refl refl
+  pub bad-record : formOf s ≡ Bad → a ≡ noCounts (BadRecord (faultOf s)) → Leaves (samplesCall s sample o) a s o
+  bad-record h e = left (samplesCall s sample o) (refused (BadRecord (faultOf s)) s o) (samples-by s sample o ∙ rw h refl) a s o e refl refl
 
   module _ (good : formOf s ≡ Good) where
     pub bad-length : (length sample ≡ sampleSize → ⊥) → a ≡ noCounts BadLength → Leaves (samplesCall s sample o) a s o
@@ -43,7 +43,7 @@ module _ (s sample o : List ℕ) (a : Answer) where
               left (samplesCall s sample o) (refused Done (bytesOf (readingOf (recordOf s) sample)) o)
               (samples-by s sample o ∙ rw (good, eq-eqb (length sample) sampleSize long, le-ltb (length o) measuringSize room, finite, h, put-nil o 0) refl) a t o e kept refl
 
-          pub sent : recordOf s .flags .sending ≡ true → (p : List ℕ) → p ≡ put o 0 (measuringFrame channels sample) → a ≡ record { result = 0; written = measuringSize; skipped = 0 } → Leaves (samplesCall s sample o) a t p
+          pub sent : recordOf s .flags .sending ≡ true → (p : List ℕ) → p ≡ put o 0 (measuringFrame channels sample) → a ≡ record { result = 0; written = measuringSize; skipped = 0; place = 0 } → Leaves (samplesCall s sample o) a t p
           sent h p q e =
               left (samplesCall s sample o) (done (readingOf (recordOf s) sample) (measuringFrame channels sample) 0 o)
               (samples-by s sample o ∙ rw (good, eq-eqb (length sample) sampleSize long, le-ltb (length o) measuringSize room, finite, h) refl) a t p e kept q

@@ -11,7 +11,7 @@ use Rattle.wire.specs.Run.{Hunted}
 use Rattle.peak.specs.Pairs.{allFinite}
 use Rattle.record.specs.Record.{Record}
 use Rattle.record.specs.Layout.{recordSize, channels, bytesOf, recordOf}
-use Rattle.record.specs.Form.{wellFormed, formOf}
+use Rattle.record.specs.Form.{wellFormed, faultOf, formOf}
 use Rattle.record.specs.Births.{factory, poweredOn}
 use Rattle.record.specs.Reading.{readingOf}
 use Rattle.command.specs.Hunt.{huntOf, recordAfter, roomFor}
@@ -20,22 +20,25 @@ use Rattle.call.specs.Outcome.{Outcome, done, Cause, cause, bad, inOrder
 
 -- ---- factory and power-on
 
--- "(factory: only the length)"
+-- "(factory: only the length)"; "a wrong buffer length or length field is place 0"
 abbrev pub factoryCauses : List ℕ → List Cause
-factoryCauses s = cause (not (eqb (length s) recordSize)) BadRecord ∷ []
+factoryCauses s = cause (not (eqb (length s) recordSize)) (BadRecord 0) ∷ []
 
 -- "factory (write a new record)"; "factory and power-on: 0 and 0"
 unfoldable pub factoryCall : List ℕ → Outcome
 unfolding factory bytesOf put
 factoryCall s = inOrder (factoryCauses s) s [] (done factory [] 0 [])
 
--- "1: record not 123 bytes or not well formed"
+-- "1: record not 123 bytes or not well formed"; "Result 1 shall also return the place of the first byte of the first faulty field"; "All calls that take a record pass it on."
+abbrev pub badRecord : List ℕ → Cause
+badRecord s = cause (bad (formOf s)) (BadRecord (faultOf s))
+
 abbrev pub powerOnCauses : List ℕ → List Cause
-powerOnCauses s = cause (bad (formOf s)) BadRecord ∷ []
+powerOnCauses s = badRecord s ∷ []
 
 -- power-on, "factory and power-on: 0 and 0": what it leaves is `poweredOn` of record/specs/Births
 unfoldable pub powerOnCall : List ℕ → Outcome
-unfolding poweredOn bytesOf recordOf put wellFormed
+unfolding poweredOn bytesOf recordOf put wellFormed faultOf
 powerOnCall s = inOrder (powerOnCauses s) s [] (done (poweredOn (recordOf s)) [] 0 [])
 
 -- ---- bytes
@@ -43,7 +46,7 @@ powerOnCall s = inOrder (powerOnCauses s) s [] (done (poweredOn (recordOf s)) []
 -- "2: input over 4,096"; "3: output shorter than 19 times the whole part of (pending + input) / 4"
 abbrev pub bytesCauses : List ℕ → List ℕ → List ℕ → List Cause
 bytesCauses s input o =
-    cause (bad (formOf s)) BadRecord
+    badRecord s
     ∷ cause (ltb inputMost (length input)) BadLength
     ∷ cause (ltb (length o) (roomFor (length (recordOf s .pending) + length input))) NoRoom
     ∷ []
@@ -54,7 +57,7 @@ afterBytes h o = done (recordAfter h) (repliesBytes (h .said)) (h .skipped) o
 
 -- "bytes (received bytes in, replies out)"
 unfoldable pub bytesCall : List ℕ → List ℕ → List ℕ → Outcome
-unfolding huntOf recordAfter repliesBytes bytesOf recordOf put wellFormed
+unfolding huntOf recordAfter repliesBytes bytesOf recordOf put wellFormed faultOf
 bytesCall s input o = inOrder (bytesCauses s input o) s o (afterBytes (huntOf (recordOf s) input) o)
 
 -- ---- samples
@@ -74,7 +77,7 @@ measuringFrame n sample = 0xAA ∷ (0x0F + n) ∷ 0xB0 ∷ bytesAt (4 * n) sampl
 -- "2: not 24"; "3: shorter than 28, also with sending off"; "4: a sample is infinite or not a number"
 abbrev pub samplesCauses : List ℕ → List ℕ → List ℕ → List Cause
 samplesCauses s sample o =
-    cause (bad (formOf s)) BadRecord
+    badRecord s
     ∷ cause (not (eqb (length sample) sampleSize)) BadLength
     ∷ cause (ltb (length o) measuringSize) NoRoom
     ∷ cause (not (allFinite channels sample 0)) NotFinite
@@ -86,5 +89,5 @@ afterSample r sample o = done (readingOf r sample) (cond (r .flags .sending) (me
 
 -- "samples (one reading of six channels in, a measuring frame out)"
 unfoldable pub samplesCall : List ℕ → List ℕ → List ℕ → Outcome
-unfolding readingOf allFinite bytesOf recordOf put wellFormed
+unfolding readingOf allFinite bytesOf recordOf put wellFormed faultOf
 samplesCall s sample o = inOrder (samplesCauses s sample o) s o (afterSample (recordOf s) sample o)

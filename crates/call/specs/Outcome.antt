@@ -16,10 +16,18 @@ use Rattle.call.specs.declared.Answer.{Answer}
 -- the column "no." of the table of call results
 abbrev pub resultOf : Ending → ℕ
 resultOf Done = 0
-resultOf BadRecord = 1
+resultOf (BadRecord place) = 1
 resultOf BadLength = 2
 resultOf NoRoom = 3
 resultOf NotFinite = 4
+
+-- "the place is one more number beside the counts, 0 in all other answers"
+abbrev pub faultyPlace : Ending → ℕ
+faultyPlace (BadRecord place) = place
+faultyPlace Done = 0
+faultyPlace BadLength = 0
+faultyPlace NoRoom = 0
+faultyPlace NotFinite = 0
 
 -- Letters, here and in all that follows: s the record's bytes and o the output buffer as a call finds them, z an outcome, r a record value, f a frame, l a stream; p is parameters in `command`, a layout in `record`.
 
@@ -31,7 +39,7 @@ pub record Outcome : Type 0 where
 
 -- an ending with zero counts
 abbrev pub noCounts : Ending → Answer
-noCounts why = record { result = resultOf why; written = 0; skipped = 0 }
+noCounts why = record { result = resultOf why; written = 0; skipped = 0; place = faultyPlace why }
 
 -- "A refusal returns its number and zero counts, and writes to no buffer."; the input is lent for reading only
 abbrev pub refused : Ending → List ℕ → List ℕ → Outcome
@@ -39,7 +47,7 @@ refused why s o = record { answer = noCounts why; kept = s; output = o }
 
 -- "0 done; counts are bytes written and bytes skipped ..; output behind the written bytes is unchanged"
 abbrev pub done : Record → List ℕ → ℕ → List ℕ → Outcome
-done r out skipped o = record { answer = record { result = resultOf Done; written = length out; skipped = skipped }; kept = bytesOf r; output = put o 0 out }
+done r out skipped o = record { answer = record { result = resultOf Done; written = length out; skipped = skipped; place = 0 }; kept = bytesOf r; output = put o 0 out }
 
 -- ---- the causes of a refusal
 

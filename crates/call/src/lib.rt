@@ -1,22 +1,24 @@
 // How a call ends, and what it returns.
 ghost use mathlib.Core.Path.{_≡_};
-ghost use Rattle.call.specs.Outcome.{resultOf, noCounts};
+ghost use Rattle.call.specs.Outcome.{resultOf, faultyPlace, noCounts};
 ghost use Rattle.call.specs.Read.{noEntries};
 
+// A bad record with the place of its first faulty field.
 pub enum Ending {
     Done,
-    BadRecord,
+    BadRecord(u32),
     BadLength,
     NoRoom,
     NotFinite,
 }
 
-// What a call over a record returns to C: a result, bytes written, bytes skipped.
+// What a call over a record returns to C: a result, bytes written, bytes skipped, where the record is bad.
 #[repr(C)]
 pub struct Answer {
     pub result: u32,
     pub written: u32,
     pub skipped: u32,
+    pub place: u32,
 }
 
 // What the reader returns to C: a result, entries written, bytes skipped, bytes unread.
@@ -33,10 +35,22 @@ fn result_of(why: Ending) -> u32
 {
     match why {
         Ending::Done => 0,
-        Ending::BadRecord => 1,
+        Ending::BadRecord(_) => 1,
         Ending::BadLength => 2,
         Ending::NoRoom => 3,
         Ending::NotFinite => 4,
+    }
+}
+
+fn place_of(why: Ending) -> u32
+    ensures { λ n. ⌜ n ≡ faultyPlace why ⌝ }
+{
+    match why {
+        Ending::BadRecord(place) => place,
+        Ending::Done => 0,
+        Ending::BadLength => 0,
+        Ending::NoRoom => 0,
+        Ending::NotFinite => 0,
     }
 }
 
@@ -48,6 +62,7 @@ pub fn ended(why: Ending) -> Answer
         result: result_of(why),
         written: 0,
         skipped: 0,
+        place: place_of(why),
     }
 }
 

@@ -118,7 +118,7 @@ fn name_words(low: u64, high: u64, n: usize) -> bool
     high >> 8 * (n - 8) == 0
 }
 
-fn name_fine(s: &[u8]) -> bool
+pub fn name_fine(s: &[u8]) -> bool
     requires { ⌜ atModel ≤ length (now s) ⌝ }
     ensures { λ r. ⌜ r ≡ allFine (nameFields (now (s .entry))) ⌝ }
 {
@@ -132,7 +132,7 @@ fn name_fine(s: &[u8]) -> bool
 }
 
 // Whether a model stands at a place: all zero from its first zero.
-fn model_fine(s: &[u8], at: usize) -> bool
+pub fn model_fine(s: &[u8], at: usize) -> bool
     requires { ⌜ at + modelRoom ≤ length (now s) ⌝ }
     ensures { λ r. ⌜ r ≡ zerosBehind (bytesAt modelRoom (now (s .entry)) at) ⌝ }
 {
@@ -161,7 +161,7 @@ fn waiting_fine(s: &[u8], at: usize, n: usize) -> bool
     n < 4 + k
 }
 
-fn pending_fine(s: &[u8]) -> bool
+pub fn pending_fine(s: &[u8]) -> bool
     requires { ⌜ atPairs ≤ length (now s) ⌝ }
     ensures { λ r. ⌜ r ≡ allFine (pendingFields (now (s .entry))) ⌝ }
 {

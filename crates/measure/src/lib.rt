@@ -10,6 +10,7 @@ use buffer::write::put_in;
 use call::Answer;
 use call::Ending;
 use call::ended;
+use fault::fault_of;
 use form::form_of;
 use reading::peaks::finite_values;
 use reading::peaks::take_reading;
@@ -66,7 +67,7 @@ pub fn answer_samples(rec: &mut [u8], sample: &[u8], out: &mut [u8]) -> Answer
     ensures { λ a. ⌜ Leaves (samplesCall (now (rec .entry)) (now (sample .entry)) (now (out .entry))) a (now (rec .exit)) (now (out .exit)) ⌝ }
 {
     let Form::Good = form_of(rec) else {
-        return ended(Ending::BadRecord);
+        return ended(Ending::BadRecord(fault_of(rec)));
     };
     if sample.len() != SAMPLE_SIZE {
         return ended(Ending::BadLength);
@@ -84,6 +85,7 @@ pub fn answer_samples(rec: &mut [u8], sample: &[u8], out: &mut [u8]) -> Answer
             result: 0,
             written: FRAME_COUNT,
             skipped: 0,
+            place: 0,
         };
     }
     ended(Ending::Done)

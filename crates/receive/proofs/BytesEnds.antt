@@ -13,7 +13,7 @@ use Rattle.wire.proofs.CutLaws.{conserved}
 use Rattle.wire.proofs.SerialLaws.{pending-short}
 use Rattle.record.specs.Record.{Record}
 use Rattle.record.specs.Layout.{atPendingLength, recordOf}
-use Rattle.record.specs.Form.{formOf}
+use Rattle.record.specs.Form.{faultOf, formOf}
 use Rattle.record.specs.InPlace.{Sound}
 use Rattle.record.specs.declared.Form.the-variants.{Good, Bad}
 use Rattle.command.specs.Hunt.{huntOf, roomFor}
@@ -45,8 +45,8 @@ none [] h = refl
 none (x ∷ l) h = absurd (omega arith)
 
 module _ (s input o : List ℕ) (a : Answer) where
-  pub bytes-bad-record : formOf s ≡ Bad → a ≡ noCounts BadRecord → Leaves (bytesCall s input o) a s o
-  bytes-bad-record g e = left (bytesCall s input o) (refused BadRecord s o) (bytes-by s input o ∙ rw g refl) a s o e refl refl
+  pub bytes-bad-record : formOf s ≡ Bad → a ≡ noCounts (BadRecord (faultOf s)) → Leaves (bytesCall s input o) a s o
+  bytes-bad-record g e = left (bytesCall s input o) (refused (BadRecord (faultOf s)) s o) (bytes-by s input o ∙ rw g refl) a s o e refl refl
 
   module _ (g : formOf s ≡ Good) where
     pub bytes-bad-length : inputMost < length input → a ≡ noCounts BadLength → Leaves (bytesCall s input o) a s o
@@ -68,7 +68,7 @@ module _ (s input o : List ℕ) (a : Answer) where
           left (bytesCall s input o) (refused Done s o) (ap (λ (l : List ℕ). bytesCall s l o) (none input z) ∙ empty-input s o bytes (good-well s g) k′) a s o e refl refl
 
       pub bytes-done : roomFor (getD s atPendingLength 0 + length input) ≤ length o → (p : Counts) (t out : List ℕ) → Serves (recordOf s) input o p t out
-          → a ≡ record { result = 0; written = p .written; skipped = p .skipped } → Leaves (bytesCall s input o) a t out
+          → a ≡ record { result = 0; written = p .written; skipped = p .skipped; place = 0 } → Leaves (bytesCall s input o) a t out
       bytes-done k p t out f e =
           let k′ : roomFor (length (recordOf s .pending) + length input) ≤ length o = rw room-is at k in
           left (bytesCall s input o) (afterBytes (huntOf (recordOf s) input) o)

@@ -4,6 +4,7 @@ ghost use Rattle.call.specs.Calls.{bytesCall};
 use call::Answer;
 use call::Ending;
 use call::ended;
+use fault::fault_of;
 use form::form_of;
 use hunt::room_for;
 use hunt::serve;
@@ -17,7 +18,7 @@ pub fn answer_bytes(rec: &mut [u8], input: &[u8], out: &mut [u8]) -> Answer
     ensures { λ a. ⌜ Leaves (bytesCall (now (rec .entry)) (now (input .entry)) (now (out .entry))) a (now (rec .exit)) (now (out .exit)) ⌝ }
 {
     let Form::Good = form_of(rec) else {
-        return ended(Ending::BadRecord);
+        return ended(Ending::BadRecord(fault_of(rec)));
     };
     if INPUT_MOST < input.len() {
         return ended(Ending::BadLength);
@@ -36,5 +37,6 @@ pub fn answer_bytes(rec: &mut [u8], input: &[u8], out: &mut [u8]) -> Answer
         result: 0,
         written: p.written as u32,
         skipped: p.skipped as u32,
+        place: 0,
     }
 }

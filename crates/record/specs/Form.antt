@@ -41,7 +41,7 @@ abbrev pub flagsFit : Bool → ℕ → Bool
 flagsFit true b = ltb b 16
 flagsFit false b = ltb b 16 && eqb (b % 2) 0
 
--- "It is well formed when each field is in its range": the tests of each part, in the words of the record's description; `Limits` has the ranges of the settings; the places serve `Fault` alone
+-- "It is well formed when each field is in its range": the tests of each part, in the words of the record's description; `Limits` has the ranges of the settings; the places are for `firstFault`
 abbrev pub testsOf : Plan → Bool → ℕ → List ℕ → Part → List Field
 -- "length 00 7B; version 01"
 testsOf p reading at c SizeBytes = field at (eqb (halfAt c 0) (planSize p)) ∷ []
@@ -99,17 +99,31 @@ unfoldable pub wellFormed : List ℕ → Bool
 unfolding wellIn
 wellFormed s = wellIn current s
 
--- the place of the first field that is not as it has to be; that of a wrong buffer length is that of the length field
+-- ---- "the place of the first byte of the first faulty field, in record order"
+
 pub data Fault : Type 0 where
   NoFault : Fault
   FaultAt : ℕ → Fault
 
+-- "Each input type, the name length, the name bytes, the pending length, the pending bytes and each pair is a field": the fields are those of `testsOf`
 abbrev pub firstFault : List Field → Fault
 firstFault [] = NoFault
 firstFault (f ∷ fs) = cond (f .fine) (firstFault fs) (FaultAt (f .place))
 
+-- "a wrong buffer length or length field is place 0"
 unfoldable pub faultIn : Plan → List ℕ → Fault
+unfolding nameRange allZero zerosBehind waits serial look key
 faultIn p s = cond (eqb (length s) (planSize p)) (firstFault (fieldsIn p s)) (FaultAt 0)
+
+-- as a number, 0 if there is none
+abbrev pub placeIn : Fault → ℕ
+placeIn NoFault = 0
+placeIn (FaultAt place) = place
+
+-- the same for the board's layout
+unfoldable pub faultOf : List ℕ → ℕ
+unfolding faultIn
+faultOf s = placeIn (faultIn current s)
 
 -- what the check answers
 abbrev pub formBy : Bool → Form

@@ -1,4 +1,4 @@
--- `ended`: an ending becomes its number, with zero counts.
+-- `ended`: an ending becomes its number and its place, with zero counts.
 use mathlib.Core.Path.{refl}
 use borrow.Author.Needs.{needs}
 use Rattle.call.proofs.ended.Statement.{statement}
@@ -7,8 +7,11 @@ use Rattle.call.proofs.ended.Tie as tie
 result-of-requires : tie.Need-result-of-requires
 result-of-requires c κs = search needs
 
+place-of-requires : tie.Need-place-of-requires
+place-of-requires c κs = search needs
+
 returns : tie.Need-returns
-returns c = rw (c .result-of .ensures) refl
+returns c = rw (c .before .result-of .ensures, c .place-of .ensures) refl
 
 pub ended-spec : {M : Type 1} → statement M
-ended-spec = tie.close (tie.spec result-of-requires returns)
+ended-spec = tie.close (tie.spec result-of-requires place-of-requires returns)

@@ -1,0 +1,2 @@
+-- The first fault of some fields.
+use mathlib.Core.Path.{_≡_}
