@@ -24,10 +24,16 @@ above-requires : tie.Need-above-requires
 above-requires c κs = search needs
 
 returns : tie.Need-returns
-returns c = ?
+returns c =
+    let w = c .before .before .before .before in
+    let a = w .before .before .before .args in
+    with-reading (a .s .now) (a .at) _ _ (w .before .word-at .ensures) (w .word-at2 .ensures) _ _ (c .before .reach2 .ensures ∙ rw (c .before .before .reach .ensures) refl) (c .above .ensures) ∙ rw (c .before .before .before .if1 .taken) refl
 
 returns-2 : tie.Need-returns-2
-returns-2 c = ?
+returns-2 c =
+    let w = c .before in
+    let a = w .before .before .before .args in
+    without-reading (a .s .now) (a .at) _ _ (w .before .word-at .ensures) (w .word-at2 .ensures) ∙ rw (c .if1 .left) refl
 
 pub pair-fine-spec : {M : Type 1} → statement M
 pair-fine-spec =
