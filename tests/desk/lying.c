@@ -12,6 +12,14 @@ struct board_answer __real_board_bytes(uint8_t *record, size_t record_len, const
                                        size_t input_len, uint8_t *output, size_t output_len);
 struct board_answer __wrap_board_bytes(uint8_t *record, size_t record_len, const uint8_t *input,
                                        size_t input_len, uint8_t *output, size_t output_len);
+struct board_answer __real_board_samples(uint8_t *record, size_t record_len, const uint8_t *sample,
+                                         size_t sample_len, uint8_t *output, size_t output_len);
+struct board_answer __wrap_board_samples(uint8_t *record, size_t record_len, const uint8_t *sample,
+                                         size_t sample_len, uint8_t *output, size_t output_len);
+struct board_answer __real_board_power_on(uint8_t *record, size_t record_len);
+struct board_answer __wrap_board_power_on(uint8_t *record, size_t record_len);
+struct board_answer __real_board_factory(uint8_t *record, size_t record_len);
+struct board_answer __wrap_board_factory(uint8_t *record, size_t record_len);
 struct board_reading __real_board_read(const uint8_t *capture, size_t capture_len, uint32_t *list,
                                        size_t list_len);
 struct board_reading __wrap_board_read(const uint8_t *capture, size_t capture_len, uint32_t *list,
@@ -26,13 +34,40 @@ static bool lie(const char *name) {
     return lie != NULL && strcmp(lie, name) == 0;
 }
 
+/* Where a lie says that a good record is bad. */
+static bool lied_place(uint32_t *place) {
+    static const struct {
+        const char *name;
+        uint32_t place;
+    } lies[] = {{"bad record", BOARD_AT_LENGTH},  {"a bad mode", BOARD_AT_MODE},
+                {"a bad pair", BOARD_AT_PAIR(6)}, {"a bad code", BOARD_AT_CODE},
+                {"no field", BOARD_AT_POWER + 1}, {"a far field", UINT32_MAX}};
+    for (size_t i = 0; i < sizeof lies / sizeof *lies; i++) {
+        *place = lies[i].place;
+        if (lie(lies[i].name))
+            return true;
+    }
+    return false;
+}
+
+/* Not the library lies here: the record goes bad while the desk is at work. */
+static void wear(uint8_t *record) {
+    if (lie("a worn version"))
+        record[BOARD_AT_VERSION] = BOARD_RECORD_VERSION + 1;
+    if (lie("a worn pair"))
+        record[BOARD_AT_PAIR(6)] = 1;
+}
+
 /* The desk's own calls of one frame have nothing skipped, so these lies are about the board's call alone. */
 struct board_answer __wrap_board_bytes(uint8_t *record, size_t record_len, const uint8_t *input,
                                        size_t input_len, uint8_t *output, size_t output_len) {
     enum { STATUS = 2, REPLY = 4 };
+    uint32_t place;
+    if (input_len > 0)
+        wear(record);
     struct board_answer answer = __real_board_bytes(record, record_len, input, input_len, output, output_len);
-    if (input_len == 0 && lie("bad record"))
-        answer.result = BOARD_BAD_RECORD;
+    if (input_len == 0 && lied_place(&place))
+        answer = (struct board_answer){BOARD_BAD_RECORD, 0, 0, place};
     if (answer.written > 0 && lie("every status"))
         output[STATUS] = 0x40;
     if (answer.skipped > 0 && lie("a status"))
@@ -48,6 +83,23 @@ struct board_answer __wrap_board_bytes(uint8_t *record, size_t record_len, const
     if (answer.skipped > 0 && lie("skipped"))
         answer.skipped++;
     return answer;
+}
+
+struct board_answer __wrap_board_samples(uint8_t *record, size_t record_len, const uint8_t *sample,
+                                         size_t sample_len, uint8_t *output, size_t output_len) {
+    wear(record);
+    return __real_board_samples(record, record_len, sample, sample_len, output, output_len);
+}
+
+struct board_answer __wrap_board_power_on(uint8_t *record, size_t record_len) {
+    wear(record);
+    return __real_board_power_on(record, record_len);
+}
+
+struct board_answer __wrap_board_factory(uint8_t *record, size_t record_len) {
+    if (lie("no factory"))
+        return (struct board_answer){BOARD_BAD_RECORD, 0, 0, 0};
+    return __real_board_factory(record, record_len);
 }
 
 /* For a capture that has one frame in it, something before it and something behind it. */

@@ -1,7 +1,5 @@
-/* The desk's words are held to the board: what its tables say of a frame or a record, the library says too.
- */
+/* The desk's words are held to the board: what its tables say of a frame, the library says too. */
 #include "board.h"
-#include "fault.h"
 #include "hunt.h"
 #include "judge.h"
 
@@ -96,45 +94,6 @@ static void every_place(void) {
     }
 }
 
-static void one_record(const uint8_t *record, size_t len, unsigned at) {
-    uint8_t copy[BOARD_RECORD_SIZE + 1], output[BOARD_ROOM(BOARD_PENDING_MOST, 0)];
-    char words[WORDS_MOST];
-    memcpy(copy, record, len);
-    const struct board_answer answer = board_bytes(copy, len, NULL, 0, output, sizeof output);
-    tally((answer.result == BOARD_BAD_RECORD) == record_fault(record, len, words),
-          "a record changed at this place to", at, at < len ? record[at] : 0);
-}
-
-/* Each byte of a record with each value. */
-static void every_byte(const uint8_t *record) {
-    for (unsigned at = 0; at < BOARD_RECORD_SIZE; at++) {
-        for (unsigned value = 0; value < BYTE_VALUES; value++) {
-            uint8_t changed[BOARD_RECORD_SIZE];
-            memcpy(changed, record, sizeof changed);
-            changed[at] = (uint8_t)value;
-            one_record(changed, sizeof changed, at);
-        }
-    }
-}
-
-/* With and without a reading, and with every number of bytes waiting behind each kind of head. */
-static void every_record(void) {
-    uint8_t record[BOARD_RECORD_SIZE], output[BOARD_ROOM_MOST];
-    const uint8_t longest[] = {
-        FRAME_START, BT121 | PARAMETERS_MOST, 1, 2, 3, 4, 5, 6, 7, 8, 9, 10, 11, 12, 13, 14, 15, 16};
-    for (size_t waiting = 0; waiting <= BOARD_PENDING_MOST; waiting++) {
-        board_factory(record, sizeof record);
-        board_bytes(record, sizeof record, longest, waiting, output, sizeof output);
-        every_byte(record);
-        start_record(record);
-        board_bytes(record, sizeof record, longest, waiting, output, sizeof output);
-        every_byte(record);
-    }
-    const uint8_t any[BOARD_RECORD_SIZE + 1] = {0};
-    for (size_t len = 0; len <= sizeof any; len++)
-        one_record(any, len, 0);
-}
-
 static struct board_reading reading(const uint8_t *said, size_t len, uint32_t *entry) {
     uint32_t list[BOARD_ENTRY_NUMBERS * BOARD_ENTRIES(SAID_MOST)] = {0};
     const struct board_reading answer = board_read(said, len, list, sizeof list / sizeof *list);
@@ -177,7 +136,6 @@ int main(void) {
     every_number();
     every_value();
     every_place();
-    every_record();
     every_said();
     printf("desk tables: %lu cases, %lu failures\n", cases, failures);
     return cases > 0 && failures == 0 ? 0 : 1;

@@ -28,6 +28,7 @@ static const char help[] =
     "Commands of a fitter in it are told as well, a code in dots. Its bytes count from 0.\n"
     "\n"
     "  --record FILE               start from this record and keep it there; a new one is from factory\n"
+    "                              of a bad one the first bad field is told, and it stays as it is\n"
     "  --hex                       only the bytes of replies and measuring frames, one frame a line\n"
     "  --commands                  the command tables, as in docs/COMMANDS.md\n"
     "  --help, --version\n"

@@ -7,16 +7,32 @@
 #include <stdio.h>
 #include <string.h>
 
-int session_refused(const char *call, unsigned result) {
+static int refused(const char *call, unsigned result, const char *words) {
     fflush(stdout);
-    fprintf(stderr, "desk: the %s call is refused with %u: %s\n", call, result, result_words(call, result));
+    fprintf(stderr, "desk: the %s call is refused with %u: %s\n", call, result, words);
     return EXIT_REFUSED;
+}
+
+int session_refused(const char *call, unsigned result) {
+    return refused(call, result, result_words(call, result));
 }
 
 int session_disagrees(const char *about) {
     fflush(stdout);
     fprintf(stderr, "desk: THE DESK AND THE LIBRARY DISAGREE about %s; the library is right\n", about);
     return EXIT_REFUSED;
+}
+
+int session_answer(const struct session *session, const char *call, struct board_answer answer) {
+    static const char bad[] = "the record is bad: ";
+    char words[sizeof bad + WORDS_MOST], *fault = strcpy(words, bad) + strlen(bad);
+    if (answer.result == BOARD_DONE)
+        return EXIT_DONE;
+    if (answer.result != BOARD_BAD_RECORD)
+        return session_refused(call, answer.result);
+    if (!fault_words(session->record, sizeof session->record, answer.place, fault))
+        return session_disagrees(fault);
+    return refused(call, answer.result, words);
 }
 
 int session_keep(const struct session *session) {
@@ -38,8 +54,8 @@ static int start_from_file(struct session *session, const uint8_t *bytes, size_t
     }
     if (answer.result != BOARD_BAD_RECORD)
         return session_refused("bytes", answer.result);
-    if (!record_fault(bytes, len, words))
-        return session_disagrees("whether the record is well formed");
+    if (!fault_words(bytes, len, answer.place, words))
+        return session_disagrees(words);
     fprintf(stderr, "desk: %s is no record: %s\n", session->path, words);
     return EXIT_REFUSED;
 }
@@ -64,24 +80,26 @@ int session_start(struct session *session, const char *path, bool hex) {
     }
 }
 
-static int finish(const struct session *session, const char *call, struct board_answer answer,
-                  const char *words) {
-    if (answer.result != BOARD_DONE)
-        return session_refused(call, answer.result);
+static int finish(const struct session *session, const char *call, const char *words) {
     const int kept = session_keep(session);
     if (kept == EXIT_DONE)
         tell_word(&session->teller, call, words);
     return kept;
 }
 
+/* Factory reads nothing of the record, so that no field of it is at fault. */
 int session_factory(struct session *session) {
-    return finish(session, "factory", board_factory(session->record, sizeof session->record),
-                  "done: the record is new");
+    const struct board_answer answer = board_factory(session->record, sizeof session->record);
+    return answer.result == BOARD_DONE ? finish(session, "factory", "done: the record is new")
+                                       : session_refused("factory", answer.result);
 }
 
 int session_power_on(struct session *session) {
-    return finish(session, "power-on", board_power_on(session->record, sizeof session->record),
-                  "done: mode closed, locked, no tries used, outputs off, sending on");
+    const int status =
+        session_answer(session, "power-on", board_power_on(session->record, sizeof session->record));
+    if (status != EXIT_DONE)
+        return status;
+    return finish(session, "power-on", "done: mode closed, locked, no tries used, outputs off, sending on");
 }
 
 static void put_float(float value, uint8_t *bytes) {
@@ -97,8 +115,9 @@ int session_sample(struct session *session, const float *sample) {
         put_float(sample[i], bytes + FLOAT_SIZE * i);
     const struct board_answer answer =
         board_samples(session->record, sizeof session->record, bytes, sizeof bytes, output, sizeof output);
-    if (answer.result != BOARD_DONE)
-        return session_refused("samples", answer.result);
+    const int status = session_answer(session, "samples", answer);
+    if (status != EXIT_DONE)
+        return status;
     const int kept = session_keep(session);
     if (kept == EXIT_DONE)
         tell_sample(&session->teller, bytes, output, answer.written);

@@ -28,6 +28,9 @@ void session_end(const struct session *session);
 /* A board call was refused. */
 int session_refused(const char *call, unsigned result);
 
+/* What a call over the session's record came to; of a bad record its faulty field is told. */
+int session_answer(const struct session *session, const char *call, struct board_answer answer);
+
 /* The desk's hunt and tables are there for words; where the library says other things, no word is sure. */
 int session_disagrees(const char *about);
 

@@ -94,8 +94,9 @@ static int one_call(struct session *session, const uint8_t *bytes, size_t len) {
     start_talk(session, bytes, len, &talk);
     const struct board_answer answer =
         board_bytes(session->record, BOARD_RECORD_SIZE, bytes, len, talk.output, sizeof talk.output);
-    if (answer.result != BOARD_DONE)
-        return session_refused("bytes", answer.result);
+    const int done = session_answer(session, "bytes", answer);
+    if (done != EXIT_DONE)
+        return done;
     talk.written = answer.written;
     const int kept = session_keep(session);
     if (kept != EXIT_DONE)

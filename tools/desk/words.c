@@ -183,7 +183,7 @@ void frame_hex(const uint8_t *frame, size_t len, char *hex) {
 const char *result_words(const char *call, unsigned result) {
     switch (result) {
     case BOARD_BAD_RECORD:
-        return "the record is not 123 bytes or not well formed";
+        return "the library takes no record of 123 bytes";
     case BOARD_BAD_LENGTH:
         return "the input has a wrong length";
     case BOARD_NO_ROOM:

@@ -23,7 +23,8 @@ void frame_hex(const uint8_t *frame, size_t len, char *hex);
 /* Bytes with spaces between; three characters of room for each. */
 void hex_words(const uint8_t *bytes, size_t len, char *hex);
 
-/* The result of a refused call; one of them has a list where the others have an output. */
+/* The result of a refused call; one of them has a list where the others have an output. A bad record is that
+ * of factory; where another one is bad, fault.h tells. */
 const char *result_words(const char *call, unsigned result);
 
 #endif
