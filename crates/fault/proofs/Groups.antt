@@ -1,5 +1,5 @@
 -- The first fault from each group of parts on, as its function looks for it.
-use Prim.Native.Nat.{ℕ, _+_, _≤_, _<_}
+use Prim.Native.Nat.{ℕ, _+_, _*_, _≤_, _<_}
 use mathlib.Core.Path.{_≡_, refl, sym, ap, _∙_}
 use mathlib.Core.Bool.{Bool, true, false, _&&_, and-true}
 use mathlib.Core.List.{List, [], _∷_}
@@ -24,11 +24,11 @@ use Rattle.fault.proofs.First.{from, from-all}
 module _ (s : List ℕ) where
   -- ---- the pairs
 
-  abbrev pub pairFine : Bool → ℕ → Bool
-  pairFine seen k = pairFits seen (pairAt s (atPairs + k))
+  abbrev pub pairFine : ℕ → Bool
+  pairFine k = pairFits (bitOf (getD s atFlags 0) 8) (pairAt s (atPairs + k))
 
-  pub pairs-from : (seen : Bool) → seen ≡ bitOf (getD s atFlags 0) 8 → faultFrom s pairParts ≡ from channels 8 (pairFine seen) atPairs [] 0
-  pairs-from seen e = rw (← e) (from-all channels 8 (pairFine seen) atPairs [])
+  pub pairs-from : faultFrom s pairParts ≡ from channels 8 pairFine atPairs [] 0
+  pairs-from = from-all channels 8 pairFine atPairs []
 
   -- ---- name, model, pending bytes
 
@@ -103,8 +103,8 @@ module _ (s : List ℕ) where
   pub inputs-from : faultFrom s inputParts ≡ from 5 1 inputFine atInputs (fieldsAt current s switchParts) 0
   inputs-from = from-all 5 1 inputFine atInputs (fieldsAt current s switchParts)
 
-  pub input-is : (k : ℕ) → inputFine k ≡ leb (getD s (atInputs + k) 0) 1
-  input-is k = fits-low 1 (getD s (atInputs + k) 0) (omega arith)
+  pub input-at : (i : ℕ) (t : Bool) → leb (getD s (atInputs + i) 0) 1 ≡ t → inputFine (1 * i) ≡ t
+  input-at i t e = let k : 1 * i ≡ i = omega arith in rw k (fits-low 1 (getD s (atInputs + i) 0) (omega arith) ∙ e)
 
   -- ---- power, step, mode, on/off
 

@@ -84,7 +84,8 @@ fn text_fault(s: &[u8]) -> u32
     requires { ⌜ recordSize ≤ length (now s) ⌝ }
     ensures { λ r. ⌜ r ≡ faultFrom (now (s .entry)) textParts ⌝ }
 {
-    if NAME_ROOM < s[AT_NAME_LENGTH] as usize {
+    let name = s[AT_NAME_LENGTH] as usize;
+    if NAME_ROOM < name {
         return AT_NAME_LENGTH as u32;
     }
     if !name_fine(s) {
@@ -93,7 +94,8 @@ fn text_fault(s: &[u8]) -> u32
     if !model_fine(s, AT_MODEL) {
         return AT_MODEL as u32;
     }
-    if PENDING_ROOM < s[AT_PENDING_LENGTH] as usize {
+    let waiting = s[AT_PENDING_LENGTH] as usize;
+    if PENDING_ROOM < waiting {
         return AT_PENDING_LENGTH as u32;
     }
     if !pending_fine(s) {
