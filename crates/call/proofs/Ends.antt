@@ -55,8 +55,8 @@ module _ (s : List ℕ) (a : Answer) where
   factory-ends h t q e =
       left (factoryCall s) (refused Done (bytesOf factory) []) (factory-by s ∙ rw (eq-eqb (length s) recordSize h, put-nil [] 0) refl) a t [] e q refl
 
-  pub power-on-refuses : formOf s ≡ Bad → a ≡ noCounts (BadRecord (faultOf s)) → Leaves (powerOnCall s) a s []
-  power-on-refuses h e = left (powerOnCall s) (refused (BadRecord (faultOf s)) s []) (power-on-by s ∙ rw h refl) a s [] e refl refl
+  pub power-on-refuses : formOf s ≡ Bad → (place : ℕ) → place ≡ faultOf s → a ≡ noCounts (BadRecord place) → Leaves (powerOnCall s) a s []
+  power-on-refuses h place f e = left (powerOnCall s) (refused (BadRecord place) s []) (power-on-by s ∙ rw (h, f) refl) a s [] e refl refl
 
   pub power-on-ends : Bytes s → formOf s ≡ Good → (t : List ℕ) → Turns s t (λ r. poweredOn r) → a ≡ noCounts Done → Leaves (powerOnCall s) a t []
   power-on-ends b h t q e =

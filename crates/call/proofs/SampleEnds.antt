@@ -20,8 +20,8 @@ use Rattle.call.specs.Calls.{sampleSize, measuringSize, measuringFrame, 
 use Rattle.call.proofs.Unfolded.{samples-by}
 
 module _ (s sample o : List ℕ) (a : Answer) where
-  pub bad-record : formOf s ≡ Bad → a ≡ noCounts (BadRecord (faultOf s)) → Leaves (samplesCall s sample o) a s o
-  bad-record h e = left (samplesCall s sample o) (refused (BadRecord (faultOf s)) s o) (samples-by s sample o ∙ rw h refl) a s o e refl refl
+  pub bad-record : formOf s ≡ Bad → (place : ℕ) → place ≡ faultOf s → a ≡ noCounts (BadRecord place) → Leaves (samplesCall s sample o) a s o
+  bad-record h place f e = left (samplesCall s sample o) (refused (BadRecord place) s o) (samples-by s sample o ∙ rw (h, f) refl) a s o e refl refl
 
   module _ (good : formOf s ≡ Good) where
     pub bad-length : (length sample ≡ sampleSize → ⊥) → a ≡ noCounts BadLength → Leaves (samplesCall s sample o) a s o

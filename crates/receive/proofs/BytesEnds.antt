@@ -45,8 +45,8 @@ none [] h = refl
 none (x ∷ l) h = absurd (omega arith)
 
 module _ (s input o : List ℕ) (a : Answer) where
-  pub bytes-bad-record : formOf s ≡ Bad → a ≡ noCounts (BadRecord (faultOf s)) → Leaves (bytesCall s input o) a s o
-  bytes-bad-record g e = left (bytesCall s input o) (refused (BadRecord (faultOf s)) s o) (bytes-by s input o ∙ rw g refl) a s o e refl refl
+  pub bytes-bad-record : formOf s ≡ Bad → (place : ℕ) → place ≡ faultOf s → a ≡ noCounts (BadRecord place) → Leaves (bytesCall s input o) a s o
+  bytes-bad-record g place f e = left (bytesCall s input o) (refused (BadRecord place) s o) (bytes-by s input o ∙ rw (g, f) refl) a s o e refl refl
 
   module _ (g : formOf s ≡ Good) where
     pub bytes-bad-length : inputMost < length input → a ≡ noCounts BadLength → Leaves (bytesCall s input o) a s o

@@ -33,10 +33,12 @@ pub fn answer_bytes(rec: &mut [u8], input: &[u8], out: &mut [u8]) -> Answer
     }
     let table = command_table();
     let p = serve(&table, rec, input, out);
+    let written = p.written as u32;
+    let skipped = p.skipped as u32;
     Answer {
         result: 0,
-        written: p.written as u32,
-        skipped: p.skipped as u32,
+        written,
+        skipped,
         place: 0,
     }
 }

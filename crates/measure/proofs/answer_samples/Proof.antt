@@ -33,6 +33,9 @@ enum-told c = search needs
 enum-told-2 : tie.Need-enum-told-2
 enum-told-2 c = search needs
 
+fault-of-requires : tie.Need-fault-of-requires
+fault-of-requires c κs = search needs
+
 ended-requires : tie.Need-ended-requires
 ended-requires c κs = search needs
 
@@ -41,8 +44,9 @@ same-length c = search needs
 
 returns : tie.Need-returns
 returns c =
-    let z = c .before .before .before .before .before .before .before .before .args in
-    bad-record (z .rec .now) (z .sample .now) (z .out .now) _ (sym (c .before .before .before .form-of .ensures) ∙ c .before .enum-told2 .given .1) (c .ended .ensures)
+    let b = c .before .before .before in
+    let z = b .before .before .before .before .before .before .before .args in
+    bad-record (z .rec .now) (z .sample .now) (z .out .now) _ (sym (b .before .before .form-of .ensures) ∙ b .enum-told2 .given .1) _ (c .before .fault-of .ensures) (c .ended .ensures)
 
 ended-requires-2 : tie.Need-ended-requires-2
 ended-requires-2 c κs = search needs
@@ -122,6 +126,7 @@ answer-samples-spec =
     form-of-requires
     enum-told
     enum-told-2
+    fault-of-requires
     ended-requires
     same-length
     returns

@@ -65,6 +65,9 @@ enum-told c = search needs
 enum-told-2 : tie.Need-enum-told-2
 enum-told-2 c = search needs
 
+fault-of-requires : tie.Need-fault-of-requires
+fault-of-requires c κs = search needs
+
 ended-requires : tie.Need-ended-requires
 ended-requires c κs = search needs
 
@@ -73,8 +76,9 @@ same-length c = search needs
 
 returns : tie.Need-returns
 returns c =
-    let z = c .before .before .before .before .before .before .before .before .args in
-    bytes-bad-record (z .rec .now) (z .input .now) (z .out .now) _ (sym (c .before .before .before .form-of .ensures) ∙ c .before .enum-told2 .given .1) (c .ended .ensures)
+    let b = c .before .before .before in
+    let z = b .before .before .before .before .before .before .before .args in
+    bytes-bad-record (z .rec .now) (z .input .now) (z .out .now) _ (sym (b .before .before .form-of .ensures) ∙ b .enum-told2 .given .1) _ (c .before .fault-of .ensures) (c .ended .ensures)
 
 ended-requires-2 : tie.Need-ended-requires-2
 ended-requires-2 c κs = search needs
@@ -129,11 +133,11 @@ serve-requires c κs =
     let g = checked (e .before) in
     (c .before .before .before .command-table .ensures, (sound g, (short (e .before), omega (arith, held-is (rec₀ g) (sound g), e .if2 .left, e .before .room-for .ensures))))
 
-cast-t26 : tie.Need-cast-t26
-cast-t26 c = omega (arith, small (c .before .before .before .before .before) .0)
+cast-written : tie.Need-cast-written
+cast-written c = omega (arith, small (c .before .before .before .before .before) .0)
 
-cast-t27 : tie.Need-cast-t27
-cast-t27 c = omega (arith, small (c .before .before .before .before .before .before) .1)
+cast-skipped : tie.Need-cast-skipped
+cast-skipped c = omega (arith, small (c .before .before .before .before .before .before) .1)
 
 same-length-5 : tie.Need-same-length-5
 same-length-5 c = search needs
@@ -155,6 +159,7 @@ answer-bytes-spec =
     form-of-requires
     enum-told
     enum-told-2
+    fault-of-requires
     ended-requires
     same-length
     returns
@@ -172,8 +177,8 @@ answer-bytes-spec =
     returns-4
     command-table-requires
     serve-requires
-    cast-t26
-    cast-t27
+    cast-written
+    cast-skipped
     same-length-5
     same-length-6
     returns-5)

@@ -15,6 +15,9 @@ enum-told c = search needs
 enum-told-2 : tie.Need-enum-told-2
 enum-told-2 c = search needs
 
+fault-of-requires : tie.Need-fault-of-requires
+fault-of-requires c κs = search needs
+
 ended-requires : tie.Need-ended-requires
 ended-requires c κs = search needs
 
@@ -22,7 +25,9 @@ same-length : tie.Need-same-length
 same-length c = search needs
 
 returns : tie.Need-returns
-returns c = power-on-refuses (c .before .before .before .before .before .before .args .rec .now) _ (sym (c .before .before .before .form-of .ensures) ∙ c .before .enum-told2 .given .1) (c .ended .ensures)
+returns c =
+    let b = c .before .before .before in
+    power-on-refuses (b .before .before .before .before .before .args .rec .now) _ (sym (b .before .before .form-of .ensures) ∙ b .enum-told2 .given .1) _ (c .before .fault-of .ensures) (c .ended .ensures)
 
 power-on-requires : tie.Need-power-on-requires
 power-on-requires c κs = good-sound (c .before .before .before .before .before .before .args .rec .now) (λ i. omega (arith, c .before .before .before .before .before .slice-known .given i)) (sym (c .before .before .before .form-of .ensures) ∙ c .before .enum-told .given .1)
@@ -45,6 +50,7 @@ answer-power-on-spec =
     form-of-requires
     enum-told
     enum-told-2
+    fault-of-requires
     ended-requires
     same-length
     returns
