@@ -30,7 +30,7 @@ use Rattle.call.proofs.Unfolded.{bytes-by}
 use Rattle.demands.specs.Premise.{SameButCode, QuietRun, Alike}
 use Rattle.demands.specs.CallList.{bytesReasons, bytesEntry}
 use Rattle.demands.proofs.Tests.{formed, malformed, below}
-use Rattle.demands.proofs.OtherCode.{other-record, own-code, well-size, same-form, done-alike}
+use Rattle.demands.proofs.OtherCode.{other-record, own-code, well-size, same-record, done-alike}
 use Rattle.demands.proofs.QuietRun.{Agree, run-same, quiet-used, run-tries}
 use Rattle.demands.proofs.Laws.{Laws, left-by}
 
@@ -73,7 +73,7 @@ module _ (s t input o : List ℕ) (bs : Bytes s) (bt : Bytes t) (same : SameButC
   room-same w = rw (other-record s t bs bt same w) refl
 
   bytes-same : SameCauses (bytesCauses s input o) (bytesCauses t input o)
-  bytes-same = (same-form s t bs bt same, λ h. (refl, λ i. (room-same (formed s h), λ j. tt)))
+  bytes-same = (same-record s t same, λ h. (refl, λ i. (room-same (formed s h), λ j. tt)))
 
   bytes-alike : None (bytesCauses s input o) → (bytesCall s input o .answer .result ≡ 0 → QuietRun (recordOf s) (recordOf t) (cut serial (recordOf s .pending ++ input) .pieces))
       → Alike (afterBytes (huntOf (recordOf s) input) o) (afterBytes (huntOf (recordOf t) input) o)

@@ -7,7 +7,7 @@ use Rattle.demands.proofs.AllLaws.{laws-of}
 
 pub ends-properly : EndsProperly
 ends-properly = record {
-  numbers = (refl, refl, refl, refl);
+  numbers = (λ place. refl, refl, refl, refl);
   ends = λ m s. ends-by (callOf (m .name)) (laws-of (m .name)) (m .lent) s;
   unharmed = λ m s b g. unharmed-by (callOf (m .name)) (laws-of (m .name)) (m .lent) s b g;
 }

@@ -1,23 +1,27 @@
--- Records that differ in nothing but perhaps the code: both are well formed or neither, and one is the other with its own code.
+-- Records that differ in nothing but perhaps the code: one is the other with its own code, both are well formed or neither, and the first fault is at the same place.
 use Prim.Native.Nat.{ℕ, zero, suc, _+_, _-_, _<_}
-use mathlib.Core.Path.{_≡_, refl, sym, ap, _∙_}
-use mathlib.Core.Bool.{Bool, true, false}
-use mathlib.Core.List.{List}
+use mathlib.Core.Path.{_≡_, refl, sym, ap, ap₂, _∙_}
+use mathlib.Core.Bool.{Bool, true, false, cond, _&&_}
+use mathlib.Core.List.{List, _++_}
 use native.Mathlib.Omega.{arith}
-use lib.ListN.{length, getD}
-use lib.Seq.{ext-getD}
-use lib.Dec.{ltb}
-use borrow.Author.Tests.{ltb-true, ltb-false}
-use Rattle.wire.specs.Numbers.{Bytes, wordAt, bytes4, bytesAt}
+use lib.ListN.{length, getD, take, drop, length-drop}
+use lib.Seq.{ext-getD, length-take-le, getD-take, getD-drop, set-getD, sets, sets-eq}
+use lib.Dec.{eqb}
+use borrow.Author.Tests.{eqb-true}
+use Rattle.wire.specs.Numbers.{Bytes, wordAt, bytesAt}
 use Rattle.record.specs.Record.{Record, withCode}
-use Rattle.record.specs.Layout.{recordSize, atCode, bytesOf, recordOf}
-use Rattle.record.specs.Form.{InRange, wellFormed, formBy, formOf}
-use Rattle.record.proofs.Parts.{word-lt, word-at, part-at}
+use Rattle.record.specs.Layout.{current, recordSize, atCode, bytesOf, recordOf}
+use Rattle.record.specs.Form.{Field, fieldsIn, allFine, InRange, wellFormed, FaultAt, firstFault, placeIn, faultOf, formBy}
+use Rattle.record.proofs.Plans.{laid}
+use Rattle.record.proofs.Parts.{word-lt, word-at}
 use Rattle.record.proofs.Lens.{long}
-use Rattle.record.proofs.RoundTrip.{read-back, well-formed, in-range, write-back}
+use Rattle.record.proofs.Stores.{set-codeIn}
+use Rattle.record.proofs.Faults.{code-blind}
+use Rattle.record.proofs.RoundTrip.{read-back, in-range, write-back}
 use Rattle.record.proofs.Whole.{code-in}
 use Rattle.call.specs.declared.Ending.the-variants.{BadRecord}
 use Rattle.call.specs.Outcome.{done, cause, bad}
+use Rattle.call.specs.Calls.{badRecord}
 use Rattle.call.proofs.Ends.{form-good, good-long}
 use Rattle.demands.specs.Premise.{SameButCode, Alike}
 
@@ -44,15 +48,59 @@ module _ (r : Record) (k : ℕ) where
     behind = λ i h. let e : 9 + (i - 9) ≡ i = omega arith in rw e at (behind-code (i - 9));
   }
 
-  code-part : bytesAt 4 (bytesOf (withCode r k)) atCode ≡ bytes4 k
-  unfolding bytesOf withCode
-  code-part = refl
-
 pub same-own : (s : List ℕ) → SameButCode s s
 same-own s = record { long = refl; before = λ i h. refl; behind = λ i h. refl }
 
-same-sym : (s t : List ℕ) → SameButCode s t → SameButCode t s
-same-sym s t h = record { long = sym (h .long); before = λ i l. sym (h .before i l); behind = λ i l. sym (h .behind i l) }
+pub well-size : (s : List ℕ) → wellFormed s ≡ true → length s ≡ recordSize
+well-size s w = good-long s (form-good s w)
+
+-- ---- one of them is the other with its own code
+
+module _ (s t : List ℕ) (same : SameButCode s t) (whole : length s ≡ recordSize) where
+  abbrev four : List ℕ
+  four = bytesAt 4 t atCode
+
+  front : take atCode t ≡ take atCode s
+  front =
+      ext-getD 0 (take atCode t) (take atCode s) (length-take-le atCode t (omega (arith, same .long)) ∙ sym (length-take-le atCode s (omega arith)))
+      (λ i h. let k : i < atCode = omega (arith, length-take-le atCode t (omega (arith, same .long))) in getD-take atCode t i 0 k ∙ sym (same .before i k) ∙ sym (getD-take atCode s i 0 k))
+
+  back : drop (atCode + 4) t ≡ drop (atCode + 4) s
+  back =
+      ext-getD 0 (drop (atCode + 4) t) (drop (atCode + 4) s) (length-drop (atCode + 4) t ∙ ap (λ (n : ℕ). n - (atCode + 4)) (sym (same .long)) ∙ sym (length-drop (atCode + 4) s))
+      (λ i h. getD-drop (atCode + 4) t i 0 ∙ sym (same .behind (atCode + 4 + i) (omega arith)) ∙ sym (getD-drop (atCode + 4) s i 0))
+
+  own-bytes : sets t atCode four ≡ t
+  own-bytes = simp set-getD
+
+  pub other-is : t ≡ sets s atCode four
+  other-is =
+      sym own-bytes ∙ sets-eq four t atCode (omega (arith, same .long)) ∙ ap₂ (λ (a b : List ℕ). a ++ four ++ b) front back ∙ sym (sets-eq four s atCode (omega arith))
+
+  -- "no field reads the code"
+  same-fields : fieldsIn current t ≡ fieldsIn current s
+  same-fields = ap (fieldsIn current) other-is ∙ code-blind current laid s four refl whole
+
+-- both are well formed, or neither, and the first fault is at the same place
+module _ (s t : List ℕ) (same : SameButCode s t) where
+  pub well-same : wellFormed s ≡ wellFormed t
+  unfolding wellFormed
+  well-same = rw (← (same .long)) (by (eqb (length s) recordSize) refl)
+    where
+      by : (b : Bool) → eqb (length s) recordSize ≡ b → (b && allFine (fieldsIn current s)) ≡ (b && allFine (fieldsIn current t))
+      by true e = ap allFine (sym (same-fields s t same (eqb-true (length s) recordSize e)))
+      by false e = refl
+
+  same-fault : faultOf s ≡ faultOf t
+  unfolding faultOf
+  same-fault = rw (← (same .long)) (by (eqb (length s) recordSize) refl)
+    where
+      by : (b : Bool) → eqb (length s) recordSize ≡ b → placeIn (cond b (firstFault (fieldsIn current s)) (FaultAt 0)) ≡ placeIn (cond b (firstFault (fieldsIn current t)) (FaultAt 0))
+      by true e = ap (λ (fs : List Field). placeIn (firstFault fs)) (sym (same-fields s t same (eqb-true (length s) recordSize e)))
+      by false e = refl
+
+  pub same-record : badRecord s ≡ badRecord t
+  same-record = ap₂ (λ (b : Bool) (k : ℕ). cause (bad (formBy b)) (BadRecord k)) well-same same-fault
 
 -- ---- one of them well formed
 
@@ -66,31 +114,11 @@ module _ (s t : List ℕ) (bs : Bytes s) (bt : Bytes t) (same : SameButCode s t)
   swapped-in : InRange swapped
   swapped-in = code-in (recordOf s) code-of (word-lt t bt atCode) (in-range s bs w)
 
-  outside : (i : ℕ) → getD s i 0 ≡ getD t i 0 → getD (bytesOf (recordOf s)) i 0 ≡ getD (bytesOf swapped) i 0 → getD t i 0 ≡ getD (bytesOf swapped) i 0
-  outside i e f = sym e ∙ ap (λ (l : List ℕ). getD l i 0) (sym (write-back s bs w)) ∙ f
-
-  inside : (j : ℕ) → j < 4 → getD t (atCode + j) 0 ≡ getD (bytesOf swapped) (atCode + j) 0
-  inside j h =
-      sym (part-at 4 t atCode j h)
-      ∙ ap (λ (l : List ℕ). getD l j 0) (sym (word-at t bt atCode) ∙ sym (code-part (recordOf s) code-of))
-      ∙ part-at 4 (bytesOf swapped) atCode j h
-
-  place : (i : ℕ) → getD t i 0 ≡ getD (bytesOf swapped) i 0
-  place i = by (ltb i 5) (ltb i 9) refl refl
-    where
-      only : SameButCode (bytesOf (recordOf s)) (bytesOf swapped)
-      only = code-only (recordOf s) code-of
-
-      by : (a b : Bool) → ltb i 5 ≡ a → ltb i 9 ≡ b → getD t i 0 ≡ getD (bytesOf swapped) i 0
-      by true b p q = let h = ltb-true i 5 p in outside i (same .before i h) (only .before i h)
-      by false false p q = let h = ltb-false i 9 q in outside i (same .behind i h) (only .behind i h)
-      by false true p q =
-          let e : 5 + (i - 5) ≡ i = omega (arith, ltb-false i 5 p) in
-          let h : i - 5 < 4 = omega (arith, ltb-true i 9 q) in
-          rw e at (inside (i - 5) h)
-
   other-bytes : t ≡ bytesOf swapped
-  other-bytes = ext-getD 0 t (bytesOf swapped) (sym (same .long) ∙ ap length (sym (write-back s bs w)) ∙ long (recordOf s) ∙ sym (long swapped)) (λ i h. place i)
+  unfolding bytesOf
+  other-bytes =
+      other-is s t same (well-size s w) ∙ ap₂ (λ (l v : List ℕ). sets l atCode v) (sym (write-back s bs w)) (sym (word-at t bt atCode))
+      ∙ set-codeIn current laid (recordOf s) code-of
 
   -- the other board is this one with its own code
   pub other-record : recordOf t ≡ withCode (recordOf s) code-of
@@ -99,24 +127,6 @@ module _ (s t : List ℕ) (bs : Bytes s) (bt : Bytes t) (same : SameButCode s t)
   pub own-code : recordOf t ≡ withCode (recordOf s) (recordOf t .code)
   unfolding withCode
   own-code = other-record ∙ ap (withCode (recordOf s)) (sym (ap (λ (r : Record). r .code) other-record))
-
-  other-well : wellFormed t ≡ true
-  other-well = ap wellFormed other-bytes ∙ well-formed swapped swapped-in
-
--- both are well formed, or neither
-pub well-same : (s t : List ℕ) → Bytes s → Bytes t → SameButCode s t → wellFormed s ≡ wellFormed t
-well-same s t bs bt same = by (wellFormed s) (wellFormed t) refl refl
-  where
-    by : (a b : Bool) → wellFormed s ≡ a → wellFormed t ≡ b → wellFormed s ≡ wellFormed t
-    by true b e f = e ∙ sym (other-well s t bs bt same e)
-    by false true e f = other-well t s bt bs (same-sym s t same) f ∙ sym f
-    by false false e f = e ∙ sym f
-
-pub same-form : (s t : List ℕ) → Bytes s → Bytes t → SameButCode s t → cause (bad (formOf s)) BadRecord ≡ cause (bad (formOf t)) BadRecord
-same-form s t bs bt same = ap (λ (b : Bool). cause (bad (formBy b)) BadRecord) (well-same s t bs bt same)
-
-pub well-size : (s : List ℕ) → wellFormed s ≡ true → length s ≡ recordSize
-well-size s w = good-long s (form-good s w)
 
 -- ---- what is left on both
 

@@ -15,7 +15,7 @@ use Rattle.call.proofs.Unfolded.{power-on-by}
 use Rattle.demands.specs.Premise.{Alike}
 use Rattle.demands.specs.CallList.{Malformed, powerOnEntry}
 use Rattle.demands.proofs.Tests.{formed, malformed}
-use Rattle.demands.proofs.OtherCode.{code-of, other-record, well-size, same-form, done-alike}
+use Rattle.demands.proofs.OtherCode.{code-of, other-record, well-size, same-record, done-alike}
 use Rattle.demands.proofs.Laws.{Laws, left-by}
 
 on-alike : (r : Record) (k : ℕ) → Alike (done (poweredOn r) [] 0 []) (done (poweredOn (withCode r k)) [] 0 [])
@@ -37,7 +37,7 @@ power-on-laws = record {
   size = λ l s n. well-size s (formed s (n .0));
   keeps = λ l s b g n. power-on-in (recordOf s) (in-range s b (formed s (n .0)));
   room = λ l s b g n. omega arith;
-  same = λ l s t bs bt same. (same-form s t bs bt same, λ h. tt);
+  same = λ l s t bs bt same. (same-record s t same, λ h. tt);
   alike = λ l s t bs bt same n h. rw (other-record s t bs bt same (formed s (n .0))) (on-alike (recordOf s) (code-of s t bs bt same (formed s (n .0))));
   quiet = λ l s t h. tt;
   tries = λ e. absurd (true≢false e);

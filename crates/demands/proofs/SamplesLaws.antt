@@ -19,7 +19,7 @@ use Rattle.call.proofs.Unfolded.{samples-by}
 use Rattle.demands.specs.Premise.{Alike}
 use Rattle.demands.specs.CallList.{samplesReasons, samplesEntry}
 use Rattle.demands.proofs.Tests.{formed, malformed, below, other, stray}
-use Rattle.demands.proofs.OtherCode.{code-of, other-record, well-size, same-form, done-alike}
+use Rattle.demands.proofs.OtherCode.{code-of, other-record, well-size, same-record, done-alike}
 use Rattle.demands.proofs.Laws.{Laws, left-by}
 
 -- what is sent
@@ -52,7 +52,7 @@ samples-laws = record {
   size = λ l s n. well-size s (formed s (n .0));
   keeps = λ l s b g n. reading-in (recordOf s) (l .input) g (in-range s b (formed s (n .0))) (not-false (allFinite channels (l .input) 0) (n .1 .1 .1 .0));
   room = λ l s b g n. short (recordOf s .flags .sending) (l .input) (l .output) (ltb-false (length (l .output)) measuringSize (n .1 .1 .0));
-  same = λ l s t bs bt same. (same-form s t bs bt same, λ h. (refl, λ i. (refl, λ j. (refl, λ k. tt))));
+  same = λ l s t bs bt same. (same-record s t same, λ h. (refl, λ i. (refl, λ j. (refl, λ k. tt))));
   alike = λ l s t bs bt same n h. rw (other-record s t bs bt same (formed s (n .0))) (read-alike (recordOf s) (code-of s t bs bt same (formed s (n .0))) (l .input) (l .output));
   quiet = λ l s t h. tt;
   tries = λ e l s h. rw (reading-tries (recordOf s) (l .input)) h;

@@ -14,11 +14,11 @@ use Rattle.peak.proofs.PairLaws.{finite-at}
 use Rattle.record.specs.Layout.{channels}
 use Rattle.record.specs.Form.{wellFormed, formBy, formOf}
 use Rattle.call.specs.declared.Ending.{Ending}
-use Rattle.call.specs.declared.Ending.the-variants.{BadRecord}
 use Rattle.call.specs.Outcome.{resultOf, bad, cause}
+use Rattle.call.specs.Calls.{badRecord}
 use Rattle.call.specs.Reasons.{reason}
 use Rattle.call.proofs.InOrder.{Decides}
-use Rattle.demands.specs.CallList.{Malformed, Stray}
+use Rattle.demands.specs.CallList.{Malformed, malformedAt, Stray}
 
 pub not-bad : (s : List ℕ) → wellFormed s ≡ true → ¬ Malformed s
 not-bad s w e = true≢false (sym w ∙ e)
@@ -53,7 +53,7 @@ module _ (why : Ending) (number : resultOf why ≢ 0) where
 pub formed : (s : List ℕ) → bad (formOf s) ≡ false → wellFormed s ≡ true
 formed s e = not-false (wellFormed s) (sym (bad-by (wellFormed s)) ∙ e)
 
-pub malformed : (s : List ℕ) → Decides (cause (bad (formOf s)) BadRecord) (reason (Malformed s) BadRecord)
+pub malformed : (s : List ℕ) → Decides (badRecord s) (malformedAt s)
 malformed s = record {
   same = refl;
   number = λ e. omega arith;

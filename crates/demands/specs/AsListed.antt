@@ -121,7 +121,7 @@ pub record InTurn : Type 0 where
   pub reply : (a : Reply) (said : List Reply) → repliesBytes (a ∷ said) ≡ 0xAA ∷ (a .kind * 16 + length (a .body)) ∷ a .status ∷ (a .body ++ 0x85 ∷ []) ++ repliesBytes said
   -- "0 done; counts are bytes written and bytes skipped", "output behind the written bytes is unchanged"
   pub left : (r : Record) (out : List ℕ) (skipped : ℕ) (o : List ℕ)
-      → done r out skipped o ≡ record { answer = record { result = 0; written = length out; skipped = skipped }; kept = bytesOf r; output = out ++ drop (length out) o }
+      → done r out skipped o ≡ record { answer = record { result = 0; written = length out; skipped = skipped; place = 0 }; kept = bytesOf r; output = out ++ drop (length out) o }
   -- A bytes call that nothing stops cuts pending bytes and input into pieces, answers them in turn, and counts what the cut skipped.
   pub call : (s input o : List ℕ) → NoReason (bytesReasons s input o)
       → let c = cut serial (recordOf s .pending ++ input) in

@@ -10,7 +10,7 @@ use Rattle.wire.specs.Frames.{cut}
 use Rattle.wire.specs.Serial.{serial}
 use Rattle.peak.specs.Pairs.{finite}
 use Rattle.record.specs.Layout.{recordOf}
-use Rattle.record.specs.Form.{wellFormed}
+use Rattle.record.specs.Form.{wellFormed, faultOf}
 use Rattle.call.specs.declared.Ending.the-variants.{BadRecord, BadLength, NoRoom, NotFinite}
 use Rattle.call.specs.Outcome.{Outcome}
 use Rattle.call.specs.Reasons.{Reason, reason}
@@ -42,6 +42,10 @@ pub record Buffers : Type 0 where
 abbrev pub Malformed : List ℕ → Type 0
 Malformed s = wellFormed s ≡ false
 
+-- with the place of its first fault
+abbrev pub malformedAt : List ℕ → Reason
+malformedAt s = reason (Malformed s) (BadRecord (faultOf s))
+
 -- 2: the input is over 4,096 bytes
 abbrev pub TooLong : List ℕ → Type 0
 TooLong input = 4096 < length input
@@ -69,10 +73,10 @@ alone reasons outcome resets = record {
 }
 
 abbrev pub factoryEntry : Call
-factoryEntry = alone (λ s. reason (length s ≢ 123) BadRecord ∷ []) factoryCall true
+factoryEntry = alone (λ s. reason (length s ≢ 123) (BadRecord 0) ∷ []) factoryCall true
 
 abbrev pub powerOnEntry : Call
-powerOnEntry = alone (λ s. reason (Malformed s) BadRecord ∷ []) powerOnCall true
+powerOnEntry = alone (λ s. malformedAt s ∷ []) powerOnCall true
 
 -- a call over an input and an output buffer, which gives no new tries
 abbrev pub buffered : (List ℕ → List ℕ → List ℕ → List Reason) → (List ℕ → List ℕ → List ℕ → Outcome) → (Buffers → List ℕ → List ℕ → Type 0) → Call
@@ -87,7 +91,7 @@ buffered reasons outcome quiet = record {
 }
 
 abbrev pub bytesReasons : List ℕ → List ℕ → List ℕ → List Reason
-bytesReasons s input o = reason (Malformed s) BadRecord ∷ reason (TooLong input) BadLength ∷ reason (Cramped s input o) NoRoom ∷ []
+bytesReasons s input o = malformedAt s ∷ reason (TooLong input) BadLength ∷ reason (Cramped s input o) NoRoom ∷ []
 
 -- a call that is refused compares nothing
 abbrev pub bytesEntry : Call
@@ -96,7 +100,7 @@ bytesEntry =
     (λ l s t. bytesCall s (l .input) (l .output) .answer .result ≡ 0 → QuietRun (recordOf s) (recordOf t) (cut serial (recordOf s .pending ++ l .input) .pieces))
 
 abbrev pub samplesReasons : List ℕ → List ℕ → List ℕ → List Reason
-samplesReasons s sample o = reason (Malformed s) BadRecord ∷ reason (length sample ≢ 24) BadLength ∷ reason (length o < 28) NoRoom ∷ reason (Stray sample) NotFinite ∷ []
+samplesReasons s sample o = malformedAt s ∷ reason (length sample ≢ 24) BadLength ∷ reason (length o < 28) NoRoom ∷ reason (Stray sample) NotFinite ∷ []
 
 abbrev pub samplesEntry : Call
 samplesEntry = buffered samplesReasons samplesCall (λ l s t. Unit {0})
