@@ -10,6 +10,7 @@ pub mod AllLaws
 pub mod Examples
 pub mod Unique
 pub mod EndsProperly
+pub mod Faults
 pub mod Room
 pub mod Stored
 pub mod AsListed

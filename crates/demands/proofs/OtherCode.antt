@@ -91,7 +91,7 @@ module _ (s t : List ℕ) (same : SameButCode s t) where
       by true e = ap allFine (sym (same-fields s t same (eqb-true (length s) recordSize e)))
       by false e = refl
 
-  same-fault : faultOf s ≡ faultOf t
+  pub same-fault : faultOf s ≡ faultOf t
   unfolding faultOf
   same-fault = rw (← (same .long)) (by (eqb (length s) recordSize) refl)
     where

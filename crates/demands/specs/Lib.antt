@@ -3,6 +3,7 @@ pub mod CallList
 pub mod Examples
 pub mod Unique
 pub mod EndsProperly
+pub mod Faults
 pub mod Room
 pub mod Stored
 pub mod AsListed

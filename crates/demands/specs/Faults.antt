@@ -1,0 +1,126 @@
+-- Demand 1: result 1 also says where the record is bad, and no other answer does.
+use Prim.Native.Nat.{ℕ, _<_}
+use mathlib.Core.Path.{_≡_}
+use mathlib.Core.Logic.{_≢_}
+use mathlib.Core.Bool.{Bool, true, false}
+use mathlib.Core.List.{List, [], _∷_}
+use lib.ListN.{length, getD, set}
+use Rattle.record.specs.Layout.{current, bytesOf}
+use Rattle.record.specs.Form.{Field, fieldsIn, faultOf}
+use Rattle.record.specs.Births.{factory}
+use Rattle.call.specs.Calls.{factoryCall, powerOnCall}
+use Rattle.demands.specs.Premise.{SameButCode}
+use Rattle.demands.specs.CallList.{Malformed, Factory, Made, outcomeOf}
+
+-- the fields of a record in their order, as places and as tests
+abbrev pub placesOf : List Field → List ℕ
+placesOf [] = []
+placesOf (f ∷ fs) = f .place ∷ placesOf fs
+
+abbrev pub testsOf : List Field → List Bool
+testsOf [] = []
+testsOf (f ∷ fs) = f .fine ∷ testsOf fs
+
+-- length; version; flags; tries; power; step; mode; on/off; five input types; outputs; interval; filter word; name length; name; model; pending length; pending bytes; six pairs. The code is no field of them.
+abbrev pub fieldPlaces : List ℕ
+fieldPlaces = 0 ∷ 2 ∷ 3 ∷ 4 ∷ 9 ∷ 11 ∷ 12 ∷ 13 ∷ 14 ∷ 15 ∷ 16 ∷ 17 ∷ 18 ∷ 19 ∷ 20 ∷ 21 ∷ 25 ∷ 26 ∷ 41 ∷ 56 ∷ 57 ∷ 75 ∷ 83 ∷ 91 ∷ 99 ∷ 107 ∷ 115 ∷ []
+
+-- field i is bad, and all before it are fine
+pub record FirstBad (s : List ℕ) (i : ℕ) : Type 0 where
+  pub there : i < length fieldPlaces
+  pub fault : getD (testsOf (fieldsIn current s)) i true ≡ false
+  pub fine : (j : ℕ) → j < i → getD (testsOf (fieldsIn current s)) j true ≡ true
+
+-- ---- worn records: bytes of a factory record replaced, and the place that the board then says
+
+pub record Byte : Type 0 where
+  pub at : ℕ
+  pub value : ℕ
+
+pub record Worn : Type 0 where
+  pub bytes : List Byte
+  pub place : ℕ
+
+abbrev pub byte : ℕ → ℕ → Byte
+byte at value = record { at = at; value = value }
+
+abbrev pub several : List Byte → ℕ → Worn
+several bytes place = record { bytes = bytes; place = place }
+
+abbrev pub one : ℕ → ℕ → ℕ → Worn
+one at value place = several (byte at value ∷ []) place
+
+abbrev pub replaced : List Byte → List ℕ → List ℕ
+replaced [] s = s
+replaced (b ∷ bs) s = replaced bs (set s (b .at) (b .value))
+
+abbrev pub worn : List Worn
+worn =
+    -- the length field, high and low byte; version; a fifth flag; a fourth try
+    one 0 1 0
+    ∷ one 1 124 0
+    ∷ one 2 2 2
+    ∷ one 3 0x10 3
+    ∷ one 4 4 4
+    -- power, high and low byte; step, mode, on/off; each input type
+    ∷ one 9 1 9
+    ∷ one 10 13 9
+    ∷ one 11 6 11
+    ∷ one 12 2 12
+    ∷ one 13 3 13
+    ∷ one 14 2 14
+    ∷ one 15 2 15
+    ∷ one 16 2 16
+    ∷ one 17 2 17
+    ∷ one 18 2 18
+    -- a fifth output; an interval below 4; a seventh filter bit, and one in the first byte
+    ∷ one 19 0x10 19
+    ∷ one 20 3 20
+    ∷ one 24 0x40 21
+    ∷ one 21 1 21
+    -- the name length; the last byte of the name, one behind it, a name cut short; a model behind its first zero
+    ∷ one 25 16 25
+    ∷ one 36 0x80 26
+    ∷ one 40 1 26
+    ∷ one 25 10 26
+    ∷ one 55 1 41
+    -- the pending length; a byte that cannot wait, and one behind those that do
+    ∷ one 56 19 56
+    ∷ one 56 1 57
+    ∷ one 74 1 57
+    -- each pair without a reading, by its first or its last byte
+    ∷ one 75 1 75
+    ∷ one 90 1 83
+    ∷ one 91 1 91
+    ∷ one 106 1 99
+    ∷ one 107 1 107
+    ∷ one 122 1 115
+    -- with a reading: a smallest value above the greatest, a greatest one that is infinite
+    ∷ several (byte 3 0x0C ∷ byte 119 0x3F ∷ []) 115
+    ∷ several (byte 3 0x0C ∷ byte 91 0x7F ∷ byte 92 0x80 ∷ []) 91
+    -- the first of two in record order; the code counts for nothing
+    ∷ several (byte 122 1 ∷ byte 2 2 ∷ []) 2
+    ∷ several (byte 13 3 ∷ byte 12 2 ∷ []) 12
+    ∷ several (byte 5 0xFF ∷ byte 13 3 ∷ []) 13
+    ∷ []
+
+abbrev pub AllWorn : List Worn → Type 0
+AllWorn [] = Unit {0}
+AllWorn (w ∷ ws) = (powerOnCall (replaced (w .bytes) (bytesOf factory)) .answer ≡ record { result = 1; written = 0; skipped = 0; place = w .place }) × AllWorn ws
+
+pub record SaysWhere : Type 0 where
+  -- The fields stand where the page says.
+  pub places : (s : List ℕ) → placesOf (fieldsIn current s) ≡ fieldPlaces
+  -- "a wrong buffer length or length field is place 0"
+  pub other-length : (s : List ℕ) → length s ≢ 123 → faultOf s ≡ 0
+  -- "the place of the first byte of the first faulty field, in record order"; a malformed record has one,
+  pub first : (s : List ℕ) (i : ℕ) → length s ≡ 123 → FirstBad s i → faultOf s ≡ getD fieldPlaces i 0
+  pub some : (s : List ℕ) → length s ≡ 123 → Malformed s → (i : ℕ) × FirstBad s i
+  -- and the code plays no part in it, whatever else is wrong.
+  pub any-code : (s t : List ℕ) → SameButCode s t → faultOf s ≡ faultOf t
+  -- "All calls that take a record pass it on."; factory looks at the length alone
+  pub told : (m : Made) (s : List ℕ) → m .name ≢ Factory → Malformed s → outcomeOf m s .answer .place ≡ faultOf s
+  pub of-factory : (s : List ℕ) → factoryCall s .answer .place ≡ 0
+  -- "0 in all other answers"
+  pub silent : (m : Made) (s : List ℕ) → outcomeOf m s .answer .result ≢ 1 → outcomeOf m s .answer .place ≡ 0
+  pub worked : AllWorn worn
