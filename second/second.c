@@ -208,6 +208,9 @@ static bool pair_is_well_formed(const uint8_t *pair) {
 
 static size_t pairs_fault(const uint8_t *record) {
     const bool read = (record[FLAGS] & FLAG_READING) != 0;
+    /* Six short looks would cost more than one long one, which is mostly enough. */
+    if (!read && all_zero(record + PAIRS, PAIRS_LEN))
+        return SOUND;
     for (size_t at = PAIRS; at < RECORD_LEN; at += PAIR_LEN) {
         const uint8_t *pair = record + at;
         if (read ? !pair_is_well_formed(pair) : !all_zero(pair, PAIR_LEN))
