@@ -13,7 +13,7 @@ enum { OTHERS = 20 };
 static const uint8_t input[] = {0xAA, 0xA0, 0xE8, 0x85, 0xAA, 0x90, 0x1B, 0x85, 0xAA, 0xA0, 0xE2,
                                 0x85, 0xAA, 0x90, 0x51, 0x85, 0xAA, 0x91, 0x53, 0x06, 0x85};
 
-/* The reading flag is in its range: pairs that are not zero are bad without it. */
+/* The pairs have to be zero if the flags say that there is no reading. */
 static size_t first_pair_not_zero(const uint8_t *record) {
     size_t at = AT_PAIRS;
     while (at < RECORD_SIZE && record[at] == 0)
@@ -21,8 +21,7 @@ static size_t first_pair_not_zero(const uint8_t *record) {
     return place_of(at);
 }
 
-/* A byte of a well-formed record was changed. Its field is bad then, if any; but a length or flags in their
-   range can only spoil what they tell of. */
+/* Where one changed byte makes a record bad, if it does; a length or flags in their range spoil a later field. */
 static size_t spoilt_place(const uint8_t *changed, size_t at) {
     if (at == AT_NAME && changed[at] <= TEXT_MOST)
         return AT_NAME + 1;
