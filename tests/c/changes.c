@@ -21,7 +21,7 @@ static size_t first_pair_not_zero(const uint8_t *record) {
     return place_of(at);
 }
 
-/* Where one changed byte makes a record bad, if it does; a length or flags in their range spoil a later field. */
+/* Where a changed byte makes a record bad, if it does; a length or flags in range spoil a later field. */
 static size_t spoilt_place(const uint8_t *changed, size_t at) {
     if (at == AT_NAME && changed[at] <= TEXT_MOST)
         return AT_NAME + 1;
