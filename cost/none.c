@@ -1,6 +1,6 @@
 #include "none.h"
 
-static const struct none_answer nothing = {0, 0, 0};
+static const struct none_answer nothing = {0, 0, 0, 0};
 
 struct none_answer none_factory(uint8_t *record, size_t record_len) {
     (void)record;

@@ -6,7 +6,7 @@
 #include <stdint.h>
 
 struct none_answer {
-    uint32_t result, written, skipped;
+    uint32_t result, written, skipped, place;
 };
 
 struct none_answer none_factory(uint8_t *record, size_t record_len);

@@ -117,6 +117,14 @@ static void empty_read(size_t size) {
     empty_input(size);
 }
 
+/* Refused for the last field, so that all are looked at: the sixth pair's smallest value is no number. */
+static void bad_last_pair(size_t size) {
+    empty_read(size);
+    start[RECORD_SIZE - FLOAT_SIZE] = 0x7F;
+    start[RECORD_SIZE - FLOAT_SIZE + 1] = 0xC0;
+    request.call = CALL_POWER_ON;
+}
+
 static void short_frame(size_t size) {
     (void)size;
     short_commands(4);
@@ -190,6 +198,7 @@ static const struct workload {
     {"wrong-last-byte", wrong_last_byte, true},
     {"empty-input", empty_input, false},
     {"empty-read", empty_read, false},
+    {"bad-last-pair", bad_last_pair, false},
     {"short-frame", short_frame, false},
     {"reading-sent", reading_sent, false},
     {"reading-refused", reading_refused, false},

@@ -36,7 +36,10 @@ static struct board_answer done(const char *call, struct board_answer answer) {
                                         [BOARD_NO_ROOM] = "no room",
                                         [BOARD_NOT_FINITE] = "not finite"};
     if (answer.result != BOARD_DONE) {
-        printf("%s refused: %s\n", call, names[answer.result]);
+        printf("%s refused: %s", call, names[answer.result]);
+        if (answer.result == BOARD_BAD_RECORD)
+            printf(", the field at %u", (unsigned)answer.place);
+        printf("\n");
         exit(1);
     }
     return answer;

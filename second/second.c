@@ -82,10 +82,14 @@ enum {
     STATUS_ACCESS = 0x62
 };
 
-static struct second_answer refused(uint32_t result) { return (struct second_answer){result, 0, 0}; }
+static struct second_answer refused(uint32_t result) { return (struct second_answer){result, 0, 0, 0}; }
+
+static struct second_answer refused_at(size_t place) {
+    return (struct second_answer){1, 0, 0, (uint32_t)place};
+}
 
 static struct second_answer done(size_t written, size_t skipped) {
-    return (struct second_answer){0, (uint32_t)written, (uint32_t)skipped};
+    return (struct second_answer){0, (uint32_t)written, (uint32_t)skipped, 0};
 }
 
 /* Numbers and values */
@@ -127,22 +131,48 @@ static bool all_at_most(const uint8_t *bytes, size_t len, uint8_t most) {
     return good;
 }
 
-static bool settings_are_well_formed(const uint8_t *record) {
+/* What a look for faults answers if there is none; no field starts behind the record. */
+enum { SOUND = RECORD_LEN };
+
+/* The fields from the version to the filter word. */
+static size_t settings_fault(const uint8_t *record) {
     const int power = signed_pair(record + CLASSIC_POWER);
     const uint8_t interval = record[INTERVAL];
-    return record[FLAGS] <= FLAGS_ALL && record[TRIES] <= TRIES_MAX && power >= POWER_LEAST &&
-           power <= POWER_MOST && record[LE_STEP] <= LE_STEP_MOST && record[MODE] <= MODE_MOST &&
-           record[ON_OFF] <= ON_OFF_MOST &&
-           all_at_most(record + INPUT_TYPES, INPUT_TYPES_LEN, INPUT_TYPE_MOST) &&
-           record[OUTPUTS] <= OUTPUTS_ALL &&
-           (interval == 0 || (interval >= INTERVAL_LEAST && interval <= INTERVAL_MOST)) &&
-           all_zero(record + FILTER, FILTER_LEN - 1) && record[FILTER + FILTER_LEN - 1] <= FILTER_ALL;
+    if (record[VERSION] != 1)
+        return VERSION;
+    if (record[FLAGS] > FLAGS_ALL)
+        return FLAGS;
+    if (record[TRIES] > TRIES_MAX)
+        return TRIES;
+    if (power < POWER_LEAST || power > POWER_MOST)
+        return CLASSIC_POWER;
+    if (record[LE_STEP] > LE_STEP_MOST)
+        return LE_STEP;
+    if (record[MODE] > MODE_MOST)
+        return MODE;
+    if (record[ON_OFF] > ON_OFF_MOST)
+        return ON_OFF;
+    for (size_t at = INPUT_TYPES; at < INPUT_TYPES + INPUT_TYPES_LEN; at++) {
+        if (record[at] > INPUT_TYPE_MOST)
+            return at;
+    }
+    if (record[OUTPUTS] > OUTPUTS_ALL)
+        return OUTPUTS;
+    if (interval != 0 && (interval < INTERVAL_LEAST || interval > INTERVAL_MOST))
+        return INTERVAL;
+    if (!all_zero(record + FILTER, FILTER_LEN - 1) || record[FILTER + FILTER_LEN - 1] > FILTER_ALL)
+        return FILTER;
+    return SOUND;
 }
 
-static bool name_is_well_formed(const uint8_t *record) {
+/* A length that is in its range is never the fault, even if the bytes would fit another one. */
+static size_t name_fault(const uint8_t *record) {
     const size_t len = record[NAME_LEN];
-    return len <= NAME_ROOM && all_at_most(record + NAME, len, NAME_BYTE_MOST) &&
-           all_zero(record + NAME + len, NAME_ROOM - len);
+    if (len > NAME_ROOM)
+        return NAME_LEN;
+    if (!all_at_most(record + NAME, len, NAME_BYTE_MOST) || !all_zero(record + NAME + len, NAME_ROOM - len))
+        return NAME;
+    return SOUND;
 }
 
 static size_t model_len(const uint8_t *record) {
@@ -152,39 +182,57 @@ static size_t model_len(const uint8_t *record) {
     return len;
 }
 
-static bool model_is_well_formed(const uint8_t *record) {
+static size_t model_fault(const uint8_t *record) {
     const size_t len = model_len(record);
-    return all_zero(record + MODEL + len, MODEL_ROOM - len);
+    return all_zero(record + MODEL + len, MODEL_ROOM - len) ? SOUND : MODEL;
 }
 
 /* Only an incomplete frame can be waiting, so its head must promise more bytes than there are. */
-static bool pending_is_well_formed(const uint8_t *record) {
+static bool can_wait(const uint8_t *bytes, size_t len) {
+    if (len >= 1 && bytes[0] != PREFIX)
+        return false;
+    return len < 2 || (is_good_head(bytes[1]) && len < FRAME_EXTRA + parameter_count(bytes[1]));
+}
+
+static size_t pending_fault(const uint8_t *record) {
     const size_t len = record[PENDING_LEN];
     const uint8_t *pending = record + PENDING;
-    if (len > PENDING_ROOM || !all_zero(pending + len, PENDING_ROOM - len))
-        return false;
-    if (len >= 1 && pending[0] != PREFIX)
-        return false;
-    return len < 2 || (is_good_head(pending[1]) && len < FRAME_EXTRA + parameter_count(pending[1]));
+    if (len > PENDING_ROOM)
+        return PENDING_LEN;
+    return can_wait(pending, len) && all_zero(pending + len, PENDING_ROOM - len) ? SOUND : PENDING;
 }
 
-static bool pairs_are_well_formed(const uint8_t *record) {
-    const uint8_t *pair = record + PAIRS;
-    if ((record[FLAGS] & FLAG_READING) == 0)
-        return all_zero(pair, PAIRS_LEN);
-    for (size_t i = 0; i < CHANNELS; i++, pair += PAIR_LEN) {
-        if (!value_is_finite(pair) || !value_is_finite(pair + VALUE_LEN) ||
-            rank(pair + VALUE_LEN) > rank(pair))
-            return false;
+static bool pair_is_well_formed(const uint8_t *pair) {
+    return value_is_finite(pair) && value_is_finite(pair + VALUE_LEN) && rank(pair + VALUE_LEN) <= rank(pair);
+}
+
+static size_t pairs_fault(const uint8_t *record) {
+    const bool read = (record[FLAGS] & FLAG_READING) != 0;
+    /* Six short looks would cost more than one long one, which is mostly enough. */
+    if (!read && all_zero(record + PAIRS, PAIRS_LEN))
+        return SOUND;
+    for (size_t at = PAIRS; at < RECORD_LEN; at += PAIR_LEN) {
+        const uint8_t *pair = record + at;
+        if (read ? !pair_is_well_formed(pair) : !all_zero(pair, PAIR_LEN))
+            return at;
     }
-    return true;
+    return SOUND;
 }
 
-/* The length comes first because no byte may be read of a record that is too short. */
-static bool record_is_well_formed(const uint8_t *record, size_t record_len) {
-    return record_len == RECORD_LEN && record[LENGTH] == 0 && record[LENGTH + 1] == RECORD_LEN &&
-           record[VERSION] == 1 && settings_are_well_formed(record) && name_is_well_formed(record) &&
-           model_is_well_formed(record) && pending_is_well_formed(record) && pairs_are_well_formed(record);
+/* The place of the first faulty field. No byte may be read of a record that is too short. */
+static size_t record_fault(const uint8_t *record, size_t record_len) {
+    if (record_len != RECORD_LEN || record[LENGTH] != 0 || record[LENGTH + 1] != RECORD_LEN)
+        return LENGTH;
+    size_t fault = settings_fault(record);
+    if (fault == SOUND)
+        fault = name_fault(record);
+    if (fault == SOUND)
+        fault = model_fault(record);
+    if (fault == SOUND)
+        fault = pending_fault(record);
+    if (fault == SOUND)
+        fault = pairs_fault(record);
+    return fault;
 }
 
 /* Commands */
@@ -615,7 +663,7 @@ struct second_answer second_factory(uint8_t *record, size_t record_len) {
     static const uint8_t code[CODE_LEN] = {0x55, 0x53, 0x43, 0x31};
     static const uint8_t name[] = {'G', 'S', 'V', '-', '6', 'B', 'T', '_', 'd', 'e', 'v'};
     if (record_len != RECORD_LEN)
-        return refused(1);
+        return refused_at(LENGTH);
     memset(record, 0, RECORD_LEN);
     record[LENGTH + 1] = RECORD_LEN;
     record[VERSION] = 1;
@@ -630,8 +678,9 @@ struct second_answer second_factory(uint8_t *record, size_t record_len) {
 }
 
 struct second_answer second_power_on(uint8_t *record, size_t record_len) {
-    if (!record_is_well_formed(record, record_len))
-        return refused(1);
+    const size_t fault = record_fault(record, record_len);
+    if (fault != SOUND)
+        return refused_at(fault);
     record[FLAGS] = FLAG_SENDING;
     record[TRIES] = 0;
     record[OUTPUTS] = 0;
@@ -642,8 +691,9 @@ struct second_answer second_power_on(uint8_t *record, size_t record_len) {
 
 struct second_answer second_bytes(uint8_t *record, size_t record_len, const uint8_t *input, size_t input_len,
                                   uint8_t *output, size_t output_len) {
-    if (!record_is_well_formed(record, record_len))
-        return refused(1);
+    const size_t fault = record_fault(record, record_len);
+    if (fault != SOUND)
+        return refused_at(fault);
     if (input_len > INPUT_MAX)
         return refused(2);
     const size_t pending_len = record[PENDING_LEN];
@@ -678,8 +728,9 @@ static void keep_reading(uint8_t *record, const uint8_t *sample) {
 
 struct second_answer second_samples(uint8_t *record, size_t record_len, const uint8_t *sample,
                                     size_t sample_len, uint8_t *output, size_t output_len) {
-    if (!record_is_well_formed(record, record_len))
-        return refused(1);
+    const size_t fault = record_fault(record, record_len);
+    if (fault != SOUND)
+        return refused_at(fault);
     if (sample_len != SAMPLE_LEN)
         return refused(2);
     if (output_len < MEASURING_LEN)

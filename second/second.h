@@ -19,14 +19,19 @@ extern "C" {
  *          4 a sample that is infinite or not a number
  * written  bytes put at the start of the output
  * skipped  bytes that the hunt passed over (bytes call only, otherwise 0)
+ * place    with result 1 where the first faulty field of the record starts, otherwise 0
  *
  * If several refusals apply, the lowest number is the answer. Any result other than 0 comes with both counts
  * 0 and with every buffer as it was. Output bytes from `written` on are never touched.
  *
+ * The places are 0 for a wrong length of the buffer or in the record, then 2 version, 3 flags, 4 tries,
+ * 9 power, 11 LE step, 12 mode, 13 on/off, 14 to 18 input types, 19 outputs, 20 interval, 21 filter word,
+ * 25 name length, 26 name bytes, 41 model, 56 pending length, 57 pending bytes, 75, 83, .. 115 pairs.
+ *
  * The buffers of one call must not overlap. A pointer may be null where its length is 0.
  */
 struct second_answer {
-    uint32_t result, written, skipped;
+    uint32_t result, written, skipped, place;
 };
 
 /* Writes a new record over whatever the 123 bytes held. */

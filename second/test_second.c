@@ -96,7 +96,7 @@ static struct second_answer make_call(enum call call, uint8_t *record, size_t re
     uint8_t *board = block(record, record_len);
     uint8_t *input = block(given, given_len);
     uint8_t *output = block(NULL, output_len);
-    struct second_answer answer = {99, 99, 99};
+    struct second_answer answer = {99, 99, 99, 99};
     switch (call) {
     case CALL_FACTORY:
         answer = second_factory(board, record_len);
@@ -112,6 +112,7 @@ static struct second_answer make_call(enum call call, uint8_t *record, size_t re
         break;
     }
     CHECK(answer.result <= 4);
+    CHECK(answer.place == 0 || (answer.result == 1 && call != CALL_FACTORY && record_len == RECORD));
     CHECK(given_len == 0 || given == NULL || memcmp(input, given, given_len) == 0);
     bool behind_unchanged = answer.written <= output_len;
     for (size_t i = answer.written; i < output_len; i++)
@@ -232,19 +233,24 @@ static struct second_answer take(uint8_t *record, const char *text) {
     return make_call(CALL_SAMPLES, record, RECORD, sample, 24, 28);
 }
 
-/* All calls that judge the record must agree about it. */
-static bool accepted(const uint8_t *record) {
+enum { NOWHERE = 999 };
+
+/* Where the record is bad. All calls that judge it must agree about that. */
+static unsigned fault_of(const uint8_t *record) {
     uint8_t copy[RECORD], sample[24];
     hex(good_sample, sample);
     memcpy(copy, record, RECORD);
-    const uint32_t power_on = make_call(CALL_POWER_ON, copy, RECORD, NULL, 0, 0).result;
+    const struct second_answer power_on = make_call(CALL_POWER_ON, copy, RECORD, NULL, 0, 0);
     memcpy(copy, record, RECORD);
-    const uint32_t bytes = make_call(CALL_BYTES, copy, RECORD, NULL, 0, 76).result;
+    const struct second_answer bytes = make_call(CALL_BYTES, copy, RECORD, NULL, 0, 76);
     memcpy(copy, record, RECORD);
-    const uint32_t samples = make_call(CALL_SAMPLES, copy, RECORD, sample, 24, 28).result;
-    CHECK(power_on <= 1 && power_on == bytes && power_on == samples);
-    return power_on == 0;
+    const struct second_answer samples = make_call(CALL_SAMPLES, copy, RECORD, sample, 24, 28);
+    CHECK(power_on.result <= 1 && power_on.result == bytes.result && power_on.result == samples.result);
+    CHECK(power_on.place == bytes.place && power_on.place == samples.place);
+    return power_on.result == 0 ? NOWHERE : power_on.place;
 }
+
+static bool accepted(const uint8_t *record) { return fault_of(record) == NOWHERE; }
 
 static void test_factory(void) {
     static const char wanted[] = "007B 01 04 00 55534331 000C 00 01 01 0000000000 00 00 00000000"
@@ -1146,6 +1152,132 @@ static void test_well_formed_pairs(void) {
     }
 }
 
+/* The fields that can be faulty, in record order; the code is none. */
+static const unsigned places[] = {0,  2,  3,  4,  9,  11, 12, 13, 14, 15, 16, 17,  18, 19,
+                                  20, 21, 25, 26, 41, 56, 57, 75, 83, 91, 99, 107, 115};
+
+static unsigned field_of(size_t at) {
+    unsigned found = 0;
+    for (size_t i = 0; i < sizeof places / sizeof *places && places[i] <= at; i++)
+        found = places[i];
+    return found;
+}
+
+/* One byte of a good record is changed: a length or a flag in its range spoils a later field, if any. */
+static unsigned spoilt_by(size_t at, uint8_t value) {
+    if (at == AT_NAME_LEN && value <= 15)
+        return AT_NAME;
+    if (at == AT_PENDING_LEN && value <= 18)
+        return AT_PENDING;
+    if (at == AT_FLAGS && value <= 15)
+        return AT_PAIRS;
+    return field_of(at);
+}
+
+static void check_changes(const uint8_t *base) {
+    uint8_t record[RECORD];
+    CHECK(accepted(base));
+    memcpy(record, base, RECORD);
+    for (size_t at = 0; at < RECORD; at++) {
+        for (unsigned value = 0; value < 256; value++) {
+            record[at] = (uint8_t)value;
+            const unsigned fault = fault_of(record);
+            CHECK(fault == NOWHERE || fault == spoilt_by(at, (uint8_t)value));
+            CHECK(fault == NOWHERE || at < AT_CODE || at >= AT_POWER);
+        }
+        record[at] = base[at];
+    }
+}
+
+static void test_places_of_changes(void) {
+    FACTORY_RECORD(record);
+    check_changes(record);
+    EXPECT(record, "AA 94 19 55 53 43 31 85 AA 93 1C 4B 36 44 85", "AA 50 00 85 AA 50 00 85", 0);
+    take(record, good_sample);
+    take(record, "BF800000 C0000000 C0400000 3F800000 BF800000 00000000");
+    EXPECT(record, "AA A5 E3 00", "", 0);
+    check_changes(record);
+}
+
+/* A fault and the place that it has, over the record of test_places_in_order. */
+struct fault {
+    unsigned place;
+    size_t at;
+    const char *bytes;
+};
+
+static const struct fault faults[] = {
+    {0, 0, "01"},           {0, 1, "7C"},           {0, 0, "7B00"},         {2, 2, "00"},
+    {2, 2, "02"},           {3, 3, "1C"},           {3, 3, "80"},           {4, 4, "04"},
+    {9, 9, "000D"},         {9, 9, "FFEB"},         {9, 9, "01"},           {11, 11, "06"},
+    {12, 12, "02"},         {13, 13, "03"},         {14, 14, "02"},         {15, 15, "FF"},
+    {16, 16, "02"},         {17, 17, "80"},         {18, 18, "02"},         {19, 19, "10"},
+    {20, 20, "03"},         {20, 20, "3C"},         {21, 21, "01"},         {21, 23, "01"},
+    {21, 24, "40"},         {25, 25, "10"},         {25, 25, "FF"},         {26, 25, "0A"},
+    {26, 26, "80"},         {26, 36, "80"},         {26, 37, "01"},         {26, 40, "01"},
+    {41, 41, "00"},         {41, 55, "01"},         {56, 56, "13"},         {56, 56, "FF"},
+    {57, 56, "00"},         {57, 56, "03"},         {57, 56, "09"},         {57, 57, "AB"},
+    {57, 58, "B5"},         {57, 58, "A0"},         {57, 61, "01"},         {57, 74, "01"},
+    {75, 75, "7F800000"},   {75, 79, "7F7FFFFF"},   {83, 83, "FFC00000"},   {83, 87, "FF800000"},
+    {91, 91, "FF7FFFFF"},   {91, 95, "00000001"},   {99, 99, "7FFFFFFF"},   {99, 103, "3F800001"},
+    {107, 107, "7F800001"}, {107, 111, "00000001"}, {115, 115, "FF800000"}, {115, 119, "7FC00000"},
+};
+
+enum { FAULTS = sizeof faults / sizeof *faults };
+
+static void put_fault(uint8_t *record, size_t i) { hex(faults[i].bytes, record + faults[i].at); }
+
+/* Every fault alone and every two: that of the earlier field is told, whatever the code. */
+static void test_places_in_order(void) {
+    FACTORY_RECORD(base);
+    EXPECT(base, "AA 94 19 55 53 43 31 85 AA 93 1C 4B 36 44 85", "AA 50 00 85 AA 50 00 85", 0);
+    take(base, "00000000 00000000 80000000 3F800000 00000000 00000000");
+    EXPECT(base, "AA A5 E3 01", "", 0);
+    uint8_t record[RECORD];
+    for (size_t i = 0; i < FAULTS; i++) {
+        memcpy(record, base, RECORD);
+        put_fault(record, i);
+        CHECK(fault_of(record) == faults[i].place);
+        hex("FF00AA85", record + AT_CODE);
+        CHECK(fault_of(record) == faults[i].place);
+        for (size_t later = i + 1; later < FAULTS; later++) {
+            memcpy(record, base, RECORD);
+            put_fault(record, later);
+            put_fault(record, i);
+            CHECK(faults[later].place == faults[i].place || fault_of(record) == faults[i].place);
+        }
+    }
+}
+
+/* Without a reading each pair that is not all zero is a fault of its own. */
+static void test_places_without_reading(void) {
+    FACTORY_RECORD(record);
+    for (size_t at = RECORD; at-- > AT_PAIRS;) {
+        record[at] = 1;
+        CHECK(fault_of(record) == field_of(at));
+    }
+    record[AT_FLAGS] |= SEEN;
+    CHECK(fault_of(record) == NOWHERE);
+}
+
+/* A buffer of another length is place 0, whatever else is wrong and for factory too. */
+static void test_places_of_lengths(void) {
+    static uint8_t input[24];
+    uint8_t record[200];
+    for (unsigned filling = 0; filling < 256; filling += 0x55) {
+        for (size_t len = 0; len <= sizeof record; len++) {
+            memset(record, (int)filling, sizeof record);
+            if (len == RECORD)
+                continue;
+            for (int call = CALL_FACTORY; call <= CALL_SAMPLES; call++) {
+                const struct second_answer answer =
+                    make_call((enum call)call, record, len, input, sizeof input, 114);
+                CHECK(answer.result == 1 && answer.place == 0);
+            }
+        }
+    }
+}
+
 /* Two readings of one channel: both zeros in both orders, and steps over the ends of the subnormals. */
 static void test_second_readings(void) {
     static const struct {
@@ -1743,6 +1875,10 @@ int main(void) {
     test_well_formed_texts();
     test_well_formed_pending();
     test_well_formed_pairs();
+    test_places_of_changes();
+    test_places_in_order();
+    test_places_without_reading();
+    test_places_of_lengths();
     test_second_readings();
     test_samples();
     test_random_samples();

@@ -60,7 +60,37 @@ static bool input_kept(const struct lent *lent, const struct given *given) {
 }
 
 static bool same_answer(struct board_answer a, struct board_answer b) {
-    return a.result == b.result && a.written == b.written && a.skipped == b.skipped;
+    return a.result == b.result && a.written == b.written && a.skipped == b.skipped && a.place == b.place;
+}
+
+/* A refusal has zero counts; only a record of the right length can be bad behind place 0. */
+static bool fits(struct board_answer answer, const struct given *given) {
+    if (answer.result != BOARD_DONE && (answer.written != 0 || answer.skipped != 0))
+        return false;
+    if (answer.result != BOARD_BAD_RECORD || given->call == CALL_FACTORY || given->record_len != RECORD_SIZE)
+        return answer.place == 0;
+    return is_place(answer.place);
+}
+
+/* Output behind the written bytes has the filling; false too if the written bytes do not fit. */
+static bool rest_kept(const struct lent *lent, const struct given *given) {
+    const size_t written = lent->answer.written;
+    if (written >= given->room)
+        return written == given->room;
+    const uint8_t *rest = lent->output + GUARD + written;
+    return rest[0] == FILLING && memcmp(rest, rest + 1, given->room - written - 1) == 0;
+}
+
+/* After a refusal the record is as given. */
+static bool record_kept(const struct lent *lent, const struct given *given) {
+    return lent->answer.result == BOARD_DONE || given->record_len == 0 ||
+           memcmp(lent->record + GUARD, given->record, given->record_len) == 0;
+}
+
+/* What holds for every call, whatever the other program does. */
+static bool is_good(const struct lent *lent, const struct given *given) {
+    return all_guarded(lent, given) && input_kept(lent, given) && fits(lent->answer, given) &&
+           rest_kept(lent, given) && record_kept(lent, given);
 }
 
 static bool same_bytes(const uint8_t *a, const uint8_t *b, size_t len) {
@@ -104,8 +134,9 @@ void both_catch_crashes(void) {
 }
 
 static void show_left(const struct program *program, const struct lent *lent, const struct given *given) {
-    printf("  %s: result %u, written %u, skipped %u, guards %s, input %s\n    record", program->name,
-           (unsigned)lent->answer.result, (unsigned)lent->answer.written, (unsigned)lent->answer.skipped,
+    printf("  %s: result %u, written %u, skipped %u, place %u, guards %s, input %s\n    record",
+           program->name, (unsigned)lent->answer.result, (unsigned)lent->answer.written,
+           (unsigned)lent->answer.skipped, (unsigned)lent->answer.place,
            all_guarded(lent, given) ? "kept" : "broken", input_kept(lent, given) ? "kept" : "changed");
     show_word(lent->record + GUARD, given->record_len, false);
     printf("\n    output");
@@ -124,7 +155,7 @@ struct board_answer both(const struct given *given) {
         /* Not the same, so that copying from guard to guard shows. */
         lents[i].record_guard = guards[(turn + 1) % TURNS][i];
         run(&programs[i], given, &lents[i]);
-        good = good && all_guarded(&lents[i], given) && input_kept(&lents[i], given);
+        good = good && is_good(&lents[i], given);
     }
     const struct lent *proved = &lents[PROVED], *second = &lents[SECOND];
     good = good && same_answer(proved->answer, second->answer) &&

@@ -14,10 +14,11 @@ static const struct part {
     void (*run)(const struct settings *settings);
     unsigned long least;
 } parts[] = {
-    {"tables", run_tables, 242},      {"commands", run_commands, 1193744},
-    {"limits", run_limits, 11718},    {"changes", run_changes, 1983786},
-    {"hunts", run_hunts, 23562},      {"readings", run_readings, 725868},
-    {"streams", run_streams, 200000}, {"captures", run_captures, 814014},
+    {"tables", run_tables, 242},        {"commands", run_commands, 1193744},
+    {"limits", run_limits, 11718},      {"changes", run_changes, 2645034},
+    {"faults", run_faults, 144578},     {"hunts", run_hunts, 23562},
+    {"readings", run_readings, 725868}, {"streams", run_streams, 200000},
+    {"captures", run_captures, 814014},
 };
 
 static int usage(void) {
@@ -64,8 +65,8 @@ static int replay(char **words) {
         !read_room(words[3], OUTPUT_ROOM, &given.room, &given.null) || !mode_named(words[4], &both_mode))
         return usage();
     const struct board_answer answer = both(&given);
-    printf("second program: result %u, written %u, skipped %u\n", (unsigned)answer.result,
-           (unsigned)answer.written, (unsigned)answer.skipped);
+    printf("second program: result %u, written %u, skipped %u, place %u\n", (unsigned)answer.result,
+           (unsigned)answer.written, (unsigned)answer.skipped, (unsigned)answer.place);
     return tally_end();
 }
 

@@ -15,6 +15,7 @@ void run_commands(const struct settings *settings);
 void run_limits(const struct settings *settings);
 void run_hunts(const struct settings *settings);
 void run_changes(const struct settings *settings);
+void run_faults(const struct settings *settings);
 void run_readings(const struct settings *settings);
 void run_streams(const struct settings *settings);
 void run_captures(const struct settings *settings);

@@ -39,7 +39,7 @@ extern const struct program programs[PROGRAMS];
 /* Defines run_NAME over NAME_factory, NAME_power_on, NAME_bytes and NAME_samples, and read_NAME. */
 #define DEFINE_CALLS(program)                                                                                \
     static struct board_answer run_##program(const struct request *r) {                                      \
-        struct program##_answer a = {99, 99, 99};                                                            \
+        struct program##_answer a = {99, 99, 99, 99};                                                        \
         switch (r->call) {                                                                                   \
         case CALL_FACTORY:                                                                                   \
             a = program##_factory(r->record, r->record_len);                                                 \
@@ -57,7 +57,7 @@ extern const struct program programs[PROGRAMS];
         case CALLS:                                                                                          \
             break;                                                                                           \
         }                                                                                                    \
-        return (struct board_answer){a.result, a.written, a.skipped};                                        \
+        return (struct board_answer){a.result, a.written, a.skipped, a.place};                               \
     }                                                                                                        \
     static struct board_reading read_##program(const uint8_t *capture, size_t capture_len, uint32_t *list,   \
                                                size_t list_len) {                                            \

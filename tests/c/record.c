@@ -10,6 +10,20 @@ const uint8_t factory_record[RECORD_SIZE] = "\0\x7B\1\4\0"
                                             "\x0B"
                                             "GSV-6BT_dev";
 
+/* Where the fields of document 02 start: every input type, length, text and pair by itself. */
+static const uint8_t places[] = {0,  2,  3,  4,  5,  9,  11, 12, 13, 14, 15, 16, 17,  18,
+                                 19, 20, 21, 25, 26, 41, 56, 57, 75, 83, 91, 99, 107, 115};
+
+size_t place_of(size_t at) {
+    size_t i = sizeof places;
+    do
+        i--;
+    while (places[i] > at);
+    return places[i];
+}
+
+bool is_place(size_t at) { return at < RECORD_SIZE && at != AT_CODE && place_of(at) == at; }
+
 static const struct field fields[] = {
     {"flags", AT_FLAGS, 1, false},
     {"tries", AT_TRIES, 1, false},

@@ -18,7 +18,7 @@ enum {
     AT_OUTPUTS = 19,
     AT_INTERVAL = 20,
     AT_FILTER = 21,
-    AT_NAME = 25,
+    AT_NAME = 25, /* its length; the bytes follow */
     AT_MODEL = 41,
     AT_PENDING = 56,
     AT_PAIRS = 75,
@@ -28,6 +28,13 @@ enum {
 enum { FLAG_OPEN = 1, FLAG_UNLOCKED = 2, FLAG_SENDING = 4, FLAG_READING = 8 };
 
 enum { TRIES_MOST = 3, CODE_SIZE = 4, TEXT_MOST = 15, PENDING_MOST = 18, CHANNELS = 6, FLOAT_SIZE = 4 };
+
+/* The place of the field of a byte, which is that of its first byte; the code's too, though no code is bad.
+ */
+size_t place_of(size_t at);
+
+/* Whether a field starts there that may be faulty. */
+bool is_place(size_t at);
 
 /* The record that factory has to write. */
 extern const uint8_t factory_record[RECORD_SIZE];

@@ -159,7 +159,7 @@ static void refuse(struct session *session, const struct request *request, uint3
     memcpy(output, session->bytes + session->len, sizeof output);
     const struct board_answer answer = session->program->run(request);
     session->good = session->good && answer.result == result && answer.written == 0 && answer.skipped == 0 &&
-                    memcmp(record, session->record, sizeof record) == 0 &&
+                    answer.place == 0 && memcmp(record, session->record, sizeof record) == 0 &&
                     memcmp(output, session->bytes + session->len, sizeof output) == 0;
 }
 

@@ -150,12 +150,13 @@ static void run_row(struct place place, const struct row *row, const struct prog
                                     row->input_len, output, sizeof output};
     const struct board_answer answer = program->run(&request);
     const bool good = answer.result == BOARD_DONE && answer.written == row->output_len &&
-                      answer.skipped == row->skipped && memcmp(output, row->output, row->output_len) == 0 &&
+                      answer.skipped == row->skipped && answer.place == 0 &&
+                      memcmp(output, row->output, row->output_len) == 0 &&
                       memcmp(record, expected, RECORD_SIZE) == 0;
     if (!tally_case(good))
         return;
-    printf("differs: %s:%lu: %s: result %u, skipped %u\n", place.file, place.line, program->name,
-           (unsigned)answer.result, (unsigned)answer.skipped);
+    printf("differs: %s:%lu: %s: result %u, skipped %u, place %u\n", place.file, place.line, program->name,
+           (unsigned)answer.result, (unsigned)answer.skipped, (unsigned)answer.place);
     show("expected output", row->output, row->output_len);
     show("output         ", output, answer.written <= sizeof output ? answer.written : 0);
     show("expected record", expected, RECORD_SIZE);

@@ -26,6 +26,10 @@ FOLLOWS(BOARD_AT_PENDING_LENGTH, BOARD_AT_MODEL, BOARD_MODEL_SIZE);
 FOLLOWS(BOARD_AT_PENDING, BOARD_AT_PENDING_LENGTH, 1);
 FOLLOWS(BOARD_AT_PAIRS, BOARD_AT_PENDING, BOARD_PENDING_SIZE);
 FOLLOWS(BOARD_RECORD_SIZE, BOARD_AT_PAIRS, BOARD_PAIRS_SIZE);
+FOLLOWS(BOARD_AT_INPUT_TYPE(2), BOARD_AT_INPUT_TYPES, 0);
+FOLLOWS(BOARD_AT_OUTPUTS, BOARD_AT_INPUT_TYPE(6), 1);
+FOLLOWS(BOARD_AT_PAIR(1), BOARD_AT_PAIRS, 0);
+FOLLOWS(BOARD_RECORD_SIZE, BOARD_AT_PAIR(6), BOARD_PAIR_SIZE);
 _Static_assert(BOARD_PAIRS_SIZE == 6 * BOARD_PAIR_SIZE, "six pairs");
 _Static_assert(BOARD_PENDING_SIZE == BOARD_PENDING_MOST, "room for the most bytes pending");
 _Static_assert(BOARD_ROOM_MOST == 19532, "the room of document 01");
@@ -176,6 +180,52 @@ static void check_helpers(void) {
     }
 }
 
+/* A new record with this byte is bad at this place. */
+static const struct fault {
+    uint32_t place;
+    size_t at;
+    uint8_t byte;
+} faults[] = {
+    {BOARD_AT_LENGTH, BOARD_AT_LENGTH + 1, BOARD_RECORD_SIZE + 1},
+    {BOARD_AT_VERSION, BOARD_AT_VERSION, BOARD_RECORD_VERSION + 1},
+    {BOARD_AT_FLAGS, BOARD_AT_FLAGS, 0x10},
+    {BOARD_AT_TRIES, BOARD_AT_TRIES, 4},
+    {BOARD_AT_POWER, BOARD_AT_POWER + 1, 13},
+    {BOARD_AT_STEP, BOARD_AT_STEP, 6},
+    {BOARD_AT_MODE, BOARD_AT_MODE, 2},
+    {BOARD_AT_ON_OFF, BOARD_AT_ON_OFF, 3},
+    {BOARD_AT_INPUT_TYPE(2), BOARD_AT_INPUT_TYPES, 2},
+    {BOARD_AT_INPUT_TYPE(6), BOARD_AT_INPUT_TYPES + 4, 2},
+    {BOARD_AT_OUTPUTS, BOARD_AT_OUTPUTS, 0x10},
+    {BOARD_AT_INTERVAL, BOARD_AT_INTERVAL, 3},
+    {BOARD_AT_FILTER, BOARD_AT_FILTER + 3, 0x40},
+    {BOARD_AT_NAME_LENGTH, BOARD_AT_NAME_LENGTH, BOARD_NAME_SIZE + 1},
+    {BOARD_AT_NAME, BOARD_AT_NAME_LENGTH, 0},
+    {BOARD_AT_NAME, BOARD_AT_NAME + BOARD_NAME_SIZE - 1, 1},
+    {BOARD_AT_MODEL, BOARD_AT_MODEL + BOARD_MODEL_SIZE - 1, 1},
+    {BOARD_AT_PENDING_LENGTH, BOARD_AT_PENDING_LENGTH, BOARD_PENDING_MOST + 1},
+    {BOARD_AT_PENDING, BOARD_AT_PENDING_LENGTH, BOARD_PENDING_MOST},
+    {BOARD_AT_PENDING, BOARD_AT_PENDING + BOARD_PENDING_SIZE - 1, 1},
+    {BOARD_AT_PAIR(1), BOARD_AT_PAIRS, 1},
+    {BOARD_AT_PAIR(2), BOARD_AT_SMALLEST(2), 1},
+    {BOARD_AT_PAIR(6), BOARD_AT_SMALLEST(6) + 3, 1},
+};
+
+static void check_faults(void) {
+    uint8_t record[BOARD_RECORD_SIZE];
+    for (unsigned i = 0; i < sizeof faults / sizeof *faults; i++) {
+        new_record(record, NOTHING);
+        record[faults[i].at] = faults[i].byte;
+        const struct board_answer answer = board_power_on(record, sizeof record);
+        check("fault", i, answer.result == BOARD_BAD_RECORD && answer.place == faults[i].place);
+    }
+    new_record(record, NOTHING);
+    const struct board_answer cut = board_power_on(record, sizeof record - 1),
+                              whole = board_power_on(record, sizeof record);
+    check("cut record", 0, cut.result == BOARD_BAD_RECORD && cut.place == BOARD_AT_LENGTH);
+    check("whole record", 0, whole.result == BOARD_DONE && whole.place == 0);
+}
+
 /* A reply between a byte of noise and one that waits. */
 static void check_entry(void) {
     static const uint8_t capture[] = {0x00, 0xAA, 0x62, 0x54, 0x01, 0x02, 0x85, 0xAA};
@@ -239,6 +289,7 @@ int main(void) {
     check_fixed();
     check_pairs();
     check_helpers();
+    check_faults();
     check_entry();
     check_capture_most();
     check_alignment();
