@@ -3,6 +3,7 @@ use Rattle.board.proofs.Exported.{all-exported}
 use Rattle.claim.specs.Claim.{Claim}
 use Rattle.demands.proofs.Unique.{unique}
 use Rattle.demands.proofs.EndsProperly.{ends-properly}
+use Rattle.demands.proofs.Faults.{says-where}
 use Rattle.demands.proofs.Room.{room}
 use Rattle.demands.proofs.Stored.{stored}
 use Rattle.demands.proofs.AsListed.{answers-as-listed}
@@ -18,6 +19,7 @@ claim = record {
   exported = all-exported;
   unique = unique;
   ends = ends-properly;
+  says-where = says-where;
   room = room;
   stored = stored;
   answers = answers-as-listed;

@@ -2,6 +2,7 @@
 use Rattle.board.proofs.Exported.{AllExported}
 use Rattle.demands.specs.Unique.{Unique}
 use Rattle.demands.specs.EndsProperly.{EndsProperly}
+use Rattle.demands.specs.Faults.{SaysWhere}
 use Rattle.demands.specs.Room.{Room}
 use Rattle.demands.specs.Stored.{Stored}
 use Rattle.demands.specs.AsListed.{AnswersAsListed}
@@ -17,8 +18,9 @@ pub record Claim : Type 1 where
   -- the contracts as they are exported, and that each allows one outcome
   pub exported : AllExported
   pub unique : Unique
-  -- 1: every call ends properly
+  -- 1: every call ends properly, and says where a record is bad
   pub ends : EndsProperly
+  pub says-where : SaysWhere
   pub room : Room
   -- 2: the board answers as the tables say
   pub stored : Stored

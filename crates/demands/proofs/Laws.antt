@@ -1,6 +1,7 @@
 -- What a call has to bring so that the demands hold for it, and the demands from that.
 use Prim.Native.Nat.{ℕ, _≤_}
 use mathlib.Core.Path.{_≡_, refl, sym, _∙_}
+use mathlib.Core.Logic.{_≢_}
 use mathlib.Core.Bool.{true, false}
 use mathlib.Core.List.{List}
 use native.Mathlib.Omega.{arith}
@@ -14,7 +15,8 @@ use Rattle.record.proofs.Lens.{long, get-tries}
 use Rattle.record.proofs.RoundTrip.{well-formed}
 use Rattle.record.proofs.Whole.{bytes-bytes}
 use Rattle.call.specs.declared.Ending.{Ending}
-use Rattle.call.specs.Outcome.{Outcome, refused, done, Cause, inOrder}
+use Rattle.call.specs.declared.Ending.the-variants.{Done, BadRecord, BadLength, NoRoom, NotFinite}
+use Rattle.call.specs.Outcome.{resultOf, faultyPlace, Outcome, refused, done, Cause, inOrder}
 use Rattle.call.specs.Reasons.{NoReason, Ends}
 use Rattle.call.proofs.InOrder.{None, SameCauses, DecidesAll, in-order, in-order-both, ends, none-left, no-reason}
 use Rattle.demands.specs.Premise.{SameButCode, Alike}
@@ -67,6 +69,17 @@ module _ (c : Call) (w : Laws c) (l : c .Lent) (s : List ℕ) where
   unspoken =
       rw (w .chain l s)
       (in-order Outcome refuse finished (λ z. (z .answer .result ≡ 0 → ⊥) → z .answer .written ≡ 0) (w .causes l s) (λ why h. refl) (λ n h. absurd (h refl)))
+
+  -- and has a place only where the record is bad
+  pub placeless : c .outcome l s .answer .result ≢ 1 → c .outcome l s .answer .place ≡ 0
+  placeless = rw (w .chain l s) (in-order Outcome refuse finished (λ z. z .answer .result ≢ 1 → z .answer .place ≡ 0) (w .causes l s) only-bad (λ n h. refl))
+    where
+      only-bad : (why : Ending) → resultOf why ≢ 1 → faultyPlace why ≡ 0
+      only-bad (BadRecord place) h = absurd (h refl)
+      only-bad Done h = refl
+      only-bad BadLength h = refl
+      only-bad NoRoom h = refl
+      only-bad NotFinite h = refl
 
   none : NoReason (c .reasons l s) → None (w .causes l s)
   none n = no-reason (w .causes l s) (c .reasons l s) (w .decides l s) n

@@ -3,23 +3,22 @@ use Prim.Native.Nat.{ℕ, _<_}
 use mathlib.Core.Path.{_≡_}
 use mathlib.Core.Logic.{_≢_}
 use mathlib.Core.Bool.{Bool, true, false}
-use mathlib.Core.List.{List, [], _∷_}
+use mathlib.Core.List.{List, [], _∷_, map}
 use lib.ListN.{length, getD, set}
 use Rattle.record.specs.Layout.{current, bytesOf}
 use Rattle.record.specs.Form.{Field, fieldsIn, faultOf}
 use Rattle.record.specs.Births.{factory}
+use Rattle.call.specs.declared.Answer.{Answer}
 use Rattle.call.specs.Calls.{factoryCall, powerOnCall}
 use Rattle.demands.specs.Premise.{SameButCode}
 use Rattle.demands.specs.CallList.{Malformed, Factory, Made, outcomeOf}
 
 -- the fields of a record in their order, as places and as tests
 abbrev pub placesOf : List Field → List ℕ
-placesOf [] = []
-placesOf (f ∷ fs) = f .place ∷ placesOf fs
+placesOf fs = map (λ (f : Field). f .place) fs
 
-abbrev pub testsOf : List Field → List Bool
-testsOf [] = []
-testsOf (f ∷ fs) = f .fine ∷ testsOf fs
+abbrev pub finesOf : List Field → List Bool
+finesOf fs = map (λ (f : Field). f .fine) fs
 
 -- length; version; flags; tries; power; step; mode; on/off; five input types; outputs; interval; filter word; name length; name; model; pending length; pending bytes; six pairs. The code is no field of them.
 abbrev pub fieldPlaces : List ℕ
@@ -28,8 +27,8 @@ fieldPlaces = 0 ∷ 2 ∷ 3 ∷ 4 ∷ 9 ∷ 11 ∷ 12 ∷ 13 ∷ 14 ∷ 15 ∷ 1
 -- field i is bad, and all before it are fine
 pub record FirstBad (s : List ℕ) (i : ℕ) : Type 0 where
   pub there : i < length fieldPlaces
-  pub fault : getD (testsOf (fieldsIn current s)) i true ≡ false
-  pub fine : (j : ℕ) → j < i → getD (testsOf (fieldsIn current s)) j true ≡ true
+  pub fault : getD (finesOf (fieldsIn current s)) i true ≡ false
+  pub fine : (j : ℕ) → j < i → getD (finesOf (fieldsIn current s)) j true ≡ true
 
 -- ---- worn records: bytes of a factory record replaced, and the place that the board then says
 
@@ -44,11 +43,11 @@ pub record Worn : Type 0 where
 abbrev pub byte : ℕ → ℕ → Byte
 byte at value = record { at = at; value = value }
 
-abbrev pub several : List Byte → ℕ → Worn
-several bytes place = record { bytes = bytes; place = place }
+abbrev pub many : List Byte → ℕ → Worn
+many bytes place = record { bytes = bytes; place = place }
 
 abbrev pub one : ℕ → ℕ → ℕ → Worn
-one at value place = several (byte at value ∷ []) place
+one at value place = many (byte at value ∷ []) place
 
 abbrev pub replaced : List Byte → List ℕ → List ℕ
 replaced [] s = s
@@ -96,17 +95,20 @@ worn =
     ∷ one 107 1 107
     ∷ one 122 1 115
     -- with a reading: a smallest value above the greatest, a greatest one that is infinite
-    ∷ several (byte 3 0x0C ∷ byte 119 0x3F ∷ []) 115
-    ∷ several (byte 3 0x0C ∷ byte 91 0x7F ∷ byte 92 0x80 ∷ []) 91
+    ∷ many (byte 3 0x0C ∷ byte 119 0x3F ∷ []) 115
+    ∷ many (byte 3 0x0C ∷ byte 91 0x7F ∷ byte 92 0x80 ∷ []) 91
     -- the first of two in record order; the code counts for nothing
-    ∷ several (byte 122 1 ∷ byte 2 2 ∷ []) 2
-    ∷ several (byte 13 3 ∷ byte 12 2 ∷ []) 12
-    ∷ several (byte 5 0xFF ∷ byte 13 3 ∷ []) 13
+    ∷ many (byte 122 1 ∷ byte 2 2 ∷ []) 2
+    ∷ many (byte 13 3 ∷ byte 12 2 ∷ []) 12
+    ∷ many (byte 5 0xFF ∷ byte 13 3 ∷ []) 13
     ∷ []
 
-abbrev pub AllWorn : List Worn → Type 0
-AllWorn [] = Unit {0}
-AllWorn (w ∷ ws) = (powerOnCall (replaced (w .bytes) (bytesOf factory)) .answer ≡ record { result = 1; written = 0; skipped = 0; place = w .place }) × AllWorn ws
+-- what power-on answers to one, and what it should answer
+abbrev pub answered : Worn → Answer
+answered w = powerOnCall (replaced (w .bytes) (bytesOf factory)) .answer
+
+abbrev pub due : Worn → Answer
+due w = record { result = 1; written = 0; skipped = 0; place = w .place }
 
 pub record SaysWhere : Type 0 where
   -- The fields stand where the page says.
@@ -123,4 +125,4 @@ pub record SaysWhere : Type 0 where
   pub of-factory : (s : List ℕ) → factoryCall s .answer .place ≡ 0
   -- "0 in all other answers"
   pub silent : (m : Made) (s : List ℕ) → outcomeOf m s .answer .result ≢ 1 → outcomeOf m s .answer .place ≡ 0
-  pub worked : AllWorn worn
+  pub worked : map answered worn ≡ map due worn
