@@ -1,6 +1,6 @@
 -- Where a record is bad, from the laws of its first fault.
 use Prim.Native.Nat.{ℕ, zero, suc, _<_}
-use mathlib.Core.Path.{_≡_, refl, sym, ap, _∙_}
+use mathlib.Core.Path.{_≡_, refl, ap, _∙_}
 use mathlib.Core.Logic.{_≢_}
 use mathlib.Core.Bool.{Bool, true, false, not, cond, true≢false}
 use mathlib.Core.List.{List, [], _∷_}
@@ -9,13 +9,11 @@ use lib.ListN.{length, getD}
 use lib.Dec.{eqb}
 use borrow.Author.Tests.{eq-eqb, ne-eqb}
 use Rattle.record.specs.Layout.{current, recordSize, bytesOf}
-use Rattle.record.specs.Form.{Field, fieldsIn, allFine, wellFormed, faultIn, FaultAt, firstFault, placeIn, faultOf}
+use Rattle.record.specs.Form.{Field, fieldsIn, allFine, wellFormed, firstFault, placeIn, faultOf}
 use Rattle.record.specs.Births.{factory}
-use Rattle.call.specs.declared.Ending.{Ending}
-use Rattle.call.specs.declared.Ending.the-variants.{Done, BadRecord, BadLength, NoRoom, NotFinite}
+use Rattle.call.specs.declared.Ending.the-variants.{BadRecord}
 use Rattle.call.specs.Outcome.{Outcome, refused, done}
 use Rattle.call.specs.Calls.{factoryCall, powerOnCall}
-use Rattle.call.proofs.InOrder.{in-order}
 use Rattle.call.proofs.Unfolded.{factory-by}
 use Rattle.demands.specs.CallList.{Malformed, Factory, PowerOn, BytesIn, SamplesIn, Name, callOf, Made, outcomeOf}
 use Rattle.demands.specs.Faults.{placesOf, finesOf, fieldPlaces, FirstBad, SaysWhere}

@@ -1,9 +1,9 @@
 -- One pair, as its function tests it.
 use Prim.Native.Nat.{ℕ, _+_, _%_, max}
-use mathlib.Core.Path.{_≡_, refl, sym, ap₂, _∙_}
+use mathlib.Core.Path.{_≡_, refl}
 use mathlib.Core.Bool.{Bool, not, _&&_, true, false}
 use mathlib.Core.List.{List}
-use lib.Dec.{ltb, leb, eqb}
+use lib.Dec.{ltb, eqb}
 use Rattle.peak.specs.Pairs.{less, key, pairFits, pairAt}
 use Rattle.peak.proofs.Patterns.{not-less, max-below}
 use Rattle.wire.specs.Numbers.{wordAt}

@@ -8,8 +8,11 @@ use Rattle.record.specs.Form.{fieldsAt, firstFault, placeIn}
 abbrev pub pairParts : List Part
 pairParts = PairsPart ∷ []
 
+abbrev pub pendingParts : List Part
+pendingParts = PendingPart ∷ pairParts
+
 abbrev pub textParts : List Part
-textParts = NamePart ∷ ModelPart ∷ PendingPart ∷ pairParts
+textParts = NamePart ∷ ModelPart ∷ pendingParts
 
 abbrev pub switchParts : List Part
 switchParts = OutputByte ∷ IntervalByte ∷ FilterWord ∷ textParts

@@ -5,7 +5,7 @@ ghost use lib.ListN.{length};
 ghost use Rattle.peak.specs.Pairs.{pairFits, pairAt};
 ghost use Rattle.record.specs.Layout.{recordSize};
 ghost use Rattle.record.specs.Form.{faultOf};
-ghost use Rattle.fault.specs.Rest.{faultFrom, radioParts, inputParts, switchParts, textParts, pairParts};
+ghost use Rattle.fault.specs.Rest.{faultFrom, radioParts, inputParts, switchParts, textParts, pendingParts, pairParts};
 use form::model_fine;
 use form::name_fine;
 use form::pending_fine;
@@ -40,10 +40,12 @@ use record::places::AT_TRIES;
 use record::places::AT_VERSION;
 use record::places::CHANNELS;
 use record::places::FILTERS;
+use record::places::FOUR_BITS;
 use record::places::NAME_ROOM;
 use record::places::PENDING_ROOM;
 use record::places::RECORD_SIZE;
 use record::places::SIZE_FIELD;
+use record::places::TRIES_MOST;
 use record::places::VERSION;
 
 const INPUTS: usize = AT_OUTPUTS - AT_INPUTS;
@@ -80,6 +82,20 @@ fn pair_fault(s: &[u8]) -> u32
     0
 }
 
+fn pending_fault(s: &[u8]) -> u32
+    requires { ⌜ recordSize ≤ length (now s) ⌝ }
+    ensures { λ r. ⌜ r ≡ faultFrom (now (s .entry)) pendingParts ⌝ }
+{
+    let waiting = s[AT_PENDING_LENGTH] as usize;
+    if PENDING_ROOM < waiting {
+        return AT_PENDING_LENGTH as u32;
+    }
+    if !pending_fine(s) {
+        return AT_PENDING as u32;
+    }
+    pair_fault(s)
+}
+
 fn text_fault(s: &[u8]) -> u32
     requires { ⌜ recordSize ≤ length (now s) ⌝ }
     ensures { λ r. ⌜ r ≡ faultFrom (now (s .entry)) textParts ⌝ }
@@ -94,21 +110,14 @@ fn text_fault(s: &[u8]) -> u32
     if !model_fine(s, AT_MODEL) {
         return AT_MODEL as u32;
     }
-    let waiting = s[AT_PENDING_LENGTH] as usize;
-    if PENDING_ROOM < waiting {
-        return AT_PENDING_LENGTH as u32;
-    }
-    if !pending_fine(s) {
-        return AT_PENDING as u32;
-    }
-    pair_fault(s)
+    pending_fault(s)
 }
 
 fn switch_fault(s: &[u8]) -> u32
     requires { ⌜ recordSize ≤ length (now s) ⌝ }
     ensures { λ r. ⌜ r ≡ faultFrom (now (s .entry)) switchParts ⌝ }
 {
-    if 15 < s[AT_OUTPUTS] {
+    if FOUR_BITS <= s[AT_OUTPUTS] {
         return AT_OUTPUTS as u32;
     }
     if !interval_fits(s[AT_INTERVAL]) {
@@ -167,10 +176,10 @@ pub fn fault_of(s: &[u8]) -> u32
     if s[AT_VERSION] != VERSION {
         return AT_VERSION as u32;
     }
-    if 15 < s[AT_FLAGS] {
+    if FOUR_BITS <= s[AT_FLAGS] {
         return AT_FLAGS as u32;
     }
-    if 3 < s[AT_TRIES] {
+    if TRIES_MOST < s[AT_TRIES] {
         return AT_TRIES as u32;
     }
     radio_fault(s)

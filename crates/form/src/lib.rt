@@ -52,11 +52,13 @@ use record::places::AT_TRIES;
 use record::places::AT_VERSION;
 use record::places::CHANNELS;
 use record::places::FILTERS;
+use record::places::FOUR_BITS;
 use record::places::MODEL_ROOM;
 use record::places::NAME_ROOM;
 use record::places::PENDING_ROOM;
 use record::places::RECORD_SIZE;
 use record::places::SIZE_FIELD;
+use record::places::TRIES_MOST;
 use record::places::VERSION;
 use wire::Announced;
 use wire::Line;
@@ -69,8 +71,8 @@ fn head_fine(s: &[u8]) -> bool
 {
     (half_at(s, AT_SIZE) == SIZE_FIELD)
         & (s[AT_VERSION] == VERSION)
-        & (s[AT_FLAGS] < 16)
-        & (s[AT_TRIES] <= 3)
+        & (s[AT_FLAGS] < FOUR_BITS)
+        & (s[AT_TRIES] <= TRIES_MOST)
 }
 
 fn radio_fine(s: &[u8]) -> bool
@@ -97,7 +99,7 @@ fn switches_fine(s: &[u8]) -> bool
     ensures { λ r. ⌜ r ≡ allFine (switchFields (now (s .entry))) ⌝ }
 {
     let interval = interval_fits(s[AT_INTERVAL]);
-    (s[AT_OUTPUTS] < 16) & interval & (word_at(s, AT_FILTER) < FILTERS)
+    (s[AT_OUTPUTS] < FOUR_BITS) & interval & (word_at(s, AT_FILTER) < FILTERS)
 }
 
 // Whether n bytes of a name are followed by zeros alone, and none is above 7F; zeros are not, so all fifteen bytes are looked at.

@@ -61,6 +61,11 @@ pub const CHANNELS: u8 = 6;
 // Filter words are below it.
 pub const FILTERS: u32 = 64;
 
+// Flags and outputs are below it: four bits each.
+pub const FOUR_BITS: u8 = 16;
+
+pub const TRIES_MOST: u8 = 3;
+
 pub const OPENED: u8 = 1;
 
 pub const UNLOCKED: u8 = 2;

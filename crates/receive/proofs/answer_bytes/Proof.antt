@@ -134,10 +134,10 @@ serve-requires c κs =
     (c .before .before .before .command-table .ensures, (sound g, (short (e .before), omega (arith, held-is (rec₀ g) (sound g), e .if2 .left, e .before .room-for .ensures))))
 
 cast-written : tie.Need-cast-written
-cast-written c = omega (arith, small (c .before .before .before .before .before) .0)
+cast-written c = let m = small (c .before .before .before .before .before) in omega (arith, m .0, m .1)
 
 cast-skipped : tie.Need-cast-skipped
-cast-skipped c = omega (arith, small (c .before .before .before .before .before .before) .1)
+cast-skipped c = let m = small (c .before .before .before .before .before .before) in omega (arith, m .0, m .1)
 
 same-length-5 : tie.Need-same-length-5
 same-length-5 c = search needs
