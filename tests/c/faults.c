@@ -133,7 +133,7 @@ static const struct fault faults[] = {
     {115, 122, 1, "\x01", UNREAD},
 };
 
-enum { FAULTS = sizeof faults / sizeof *faults, STARTS = 4 };
+enum { FAULTS = sizeof faults / sizeof *faults, STARTS = 4, LENGTH_MOST = 200 };
 
 /* As bytes and as a sample such that a call that did not look would change the record and write. */
 static const uint8_t input[BOARD_SAMPLE_SIZE] = {0x85, 0xAA, 0x90, 0x23, 0x85, 0xAA, 0x90, 0x24, 0x85};
@@ -146,7 +146,7 @@ static struct board_answer give(enum call call, uint8_t *record, size_t len) {
 
 /* Holds what both programs did to the table: the call is refused at the place, and the record stays. */
 static void expect_refused(enum call call, const uint8_t *record, size_t len, size_t place) {
-    static uint8_t copy[RECORD_ROOM];
+    uint8_t copy[LENGTH_MOST];
     memcpy(copy, record, len);
     const struct board_answer answer = give(call, copy, len);
     const bool good = answer.result == BOARD_BAD_RECORD && answer.written == 0 && answer.skipped == 0 &&
@@ -261,7 +261,7 @@ static void fill(struct draw *draw, uint8_t *record, size_t room, unsigned way) 
 }
 
 static void every_wrong_length(struct draw *draw) {
-    enum { LENGTH_MOST = 200, WAYS = 4 };
+    enum { WAYS = 4 };
     uint8_t record[LENGTH_MOST];
     for (size_t len = 0; len <= LENGTH_MOST; len++) {
         for (unsigned way = 0; len != RECORD_SIZE && way < WAYS; way++) {
@@ -297,13 +297,15 @@ static void every_code(struct draw *draw) {
         draw_start(draw, spoilt, draw_below(draw, 2) == 0);
         spoil(draw, spoilt);
         for (int call = CALL_POWER_ON; call < CALLS; call++) {
-            struct board_answer answers[CODES];
+            struct board_answer first = {0};
             bool good = true;
             for (size_t code = 0; code < CODES; code++) {
                 memcpy(record, spoilt, RECORD_SIZE);
                 memcpy(record + AT_CODE, codes[code], CODE_SIZE);
-                answers[code] = give((enum call)call, record, RECORD_SIZE);
-                good = good && same(answers[code], answers[0]);
+                const struct board_answer answer = give((enum call)call, record, RECORD_SIZE);
+                if (code == 0)
+                    first = answer;
+                good = good && same(answer, first);
             }
             if (tally_case(good))
                 printf("%s: the place depends on the code\n", call_names[call]);

@@ -28,9 +28,11 @@ static const char *bytes_words(size_t at, size_t len, char *words) {
 
 static bool length_fault(const uint8_t *record, const struct kept *kept, char *words) {
     const int length = record[kept->at] << 8 | record[kept->at + 1];
+    char bytes[40];
     if (length == BOARD_RECORD_SIZE)
         return false;
-    return SAY("the %s (bytes 0 and 1) is %d; %d is due", kept->name, length, BOARD_RECORD_SIZE);
+    return SAY("the %s (%s) is %d; %d is due", kept->name, bytes_words(kept->at, BOARD_LENGTH_SIZE, bytes),
+               length, BOARD_RECORD_SIZE);
 }
 
 static bool version_fault(const uint8_t *record, const struct kept *kept, char *words) {
@@ -123,7 +125,7 @@ static bool pending_fault(const uint8_t *record, const struct kept *kept, char *
         return SAY("the %s (from byte %" PRIu32 " on) are none that wait for more", kept->name, kept->at);
     if (found == end)
         return false;
-    return SAY("the %s: byte %zu behind them is another than 00, which is due", kept->name, found);
+    return SAY("the %s: byte %zu behind them is not 00", kept->name, found);
 }
 
 static bool pair_fault(const uint8_t *record, const struct kept *kept, char *words) {

@@ -6,7 +6,7 @@
 
 /*
  * The field at the place that a call returned for a bad record: its name, what stands there and what is due,
- * in words of at most WORDS_MOST. False if the desk sees no fault there; the words then tell what about.
+ * in words of at most WORDS_MOST. False if the desk sees no fault there; the words then tell the place.
  */
 bool fault_words(const uint8_t *record, size_t len, uint32_t place, char *words);
 

@@ -47,7 +47,7 @@ refused why s o = record { answer = noCounts why; kept = s; output = o }
 
 -- "0 done; counts are bytes written and bytes skipped ..; output behind the written bytes is unchanged"
 abbrev pub done : Record → List ℕ → ℕ → List ℕ → Outcome
-done r out skipped o = record { answer = record { result = resultOf Done; written = length out; skipped = skipped; place = 0 }; kept = bytesOf r; output = put o 0 out }
+done r out skipped o = record { answer = record { result = resultOf Done; written = length out; skipped = skipped; place = faultyPlace Done }; kept = bytesOf r; output = put o 0 out }
 
 -- ---- the causes of a refusal
 

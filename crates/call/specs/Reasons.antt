@@ -29,6 +29,6 @@ pub record EndsBy {Z : Type 0} (reasons : List Reason) (refuse : Ending → Z) (
   pub refuses : Refuses reasons refuse z
   pub done-exactly : (result z ≡ 0) ↔ NoReason reasons
 
--- a call over a record is refused by its number, with zero counts and record and output as they were
+-- a call over a record is refused by its number and its place, with zero counts and record and output as they were
 abbrev pub Ends : List Reason → List ℕ → List ℕ → Outcome → Type 0
 Ends reasons s o z = EndsBy reasons (λ why. refused why s o) (λ (x : Outcome). x .answer .result) z

@@ -3,7 +3,7 @@ ghost use mathlib.Core.Path.{_≡_};
 ghost use Rattle.call.specs.Outcome.{resultOf, faultyPlace, noCounts};
 ghost use Rattle.call.specs.Read.{noEntries};
 
-// A bad record with the place of its first faulty field.
+// A bad record has the place of its first faulty field.
 pub enum Ending {
     Done,
     BadRecord(u32),
@@ -42,7 +42,7 @@ fn result_of(why: Ending) -> u32
     }
 }
 
-fn place_of(why: Ending) -> u32
+fn faulty_place(why: Ending) -> u32
     ensures { λ n. ⌜ n ≡ faultyPlace why ⌝ }
 {
     match why {
@@ -62,7 +62,7 @@ pub fn ended(why: Ending) -> Answer
         result: result_of(why),
         written: 0,
         skipped: 0,
-        place: place_of(why),
+        place: faulty_place(why),
     }
 }
 

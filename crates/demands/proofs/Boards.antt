@@ -87,7 +87,7 @@ idles s f o = record { answer = bytesCall s f o .answer; kept = s; output = byte
 
 -- it says the same to every input, and leaves the record as it was
 abbrev says : List ℕ → Board
-says reply s f o = record { answer = record { result = bytesCall s f o .answer .result; written = length reply; skipped = bytesCall s f o .answer .skipped; place = 0 }; kept = s; output = put o 0 reply }
+says reply s f o = record { answer = record { result = bytesCall s f o .answer .result; written = length reply; skipped = bytesCall s f o .answer .skipped; place = bytesCall s f o .answer .place }; kept = s; output = put o 0 reply }
 
 abbrev says-unknown : Board
 says-unknown = says (0xAA ∷ 0x50 ∷ 0x40 ∷ 0x85 ∷ [])
@@ -97,7 +97,7 @@ says-done = says (0xAA ∷ 0x50 ∷ 0x00 ∷ 0x85 ∷ [])
 
 -- it counts a skipped byte too many
 abbrev counts : Board
-counts s f o = let z = bytesCall s f o in record { answer = record { result = z .answer .result; written = z .answer .written; skipped = z .answer .skipped + 1; place = 0 }; kept = z .kept; output = z .output }
+counts s f o = let z = bytesCall s f o in record { answer = record { result = z .answer .result; written = z .answer .written; skipped = z .answer .skipped + 1; place = z .answer .place }; kept = z .kept; output = z .output }
 
 refuses-all : RefusesAll says-unknown
 unfolding put

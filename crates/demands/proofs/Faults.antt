@@ -9,7 +9,7 @@ use lib.ListN.{length, getD}
 use lib.Dec.{eqb}
 use borrow.Author.Tests.{eq-eqb, ne-eqb}
 use Rattle.record.specs.Layout.{current, recordSize, bytesOf}
-use Rattle.record.specs.Form.{Field, fieldsIn, allFine, wellFormed, firstFault, placeIn, faultOf}
+use Rattle.record.specs.Form.{Field, fieldsIn, allFine, wellFormed, firstFault, faultPlace, faultOf}
 use Rattle.record.specs.Births.{factory}
 use Rattle.call.specs.declared.Ending.the-variants.{BadRecord}
 use Rattle.call.specs.Outcome.{Outcome, refused, done}
@@ -17,13 +17,13 @@ use Rattle.call.specs.Calls.{factoryCall, powerOnCall}
 use Rattle.call.proofs.Unfolded.{factory-by}
 use Rattle.demands.specs.CallList.{Malformed, Factory, PowerOn, BytesIn, SamplesIn, Name, callOf, Made, outcomeOf}
 use Rattle.demands.specs.Faults.{placesOf, finesOf, fieldPlaces, FirstBad, SaysWhere}
-use Rattle.demands.proofs.OtherCode.{same-fault}
+use Rattle.demands.proofs.OtherCode.{cut-short, same-fault}
 use Rattle.demands.proofs.Laws.{ends-by, placeless}
 use Rattle.demands.proofs.AllLaws.{laws-of}
 
 -- ---- the first fault of any fields
 
-placed : (fs : List Field) (i : ℕ) → getD (finesOf fs) i true ≡ false → ((j : ℕ) → j < i → getD (finesOf fs) j true ≡ true) → placeIn (firstFault fs) ≡ getD (placesOf fs) i 0
+placed : (fs : List Field) (i : ℕ) → getD (finesOf fs) i true ≡ false → ((j : ℕ) → j < i → getD (finesOf fs) j true ≡ true) → faultPlace (firstFault fs) ≡ getD (placesOf fs) i 0
 placed [] i e h = absurd (true≢false e)
 placed (f ∷ fs) zero e h = rw e refl
 placed (f ∷ fs) (suc i) e h = rw (h 0 (omega arith)) (placed fs i e (λ j k. h (suc j) (omega arith)))
@@ -48,11 +48,10 @@ within (f ∷ fs) (suc i) e = omega (arith, within fs i e)
 
 module _ (s : List ℕ) where
   other : length s ≢ recordSize → faultOf s ≡ 0
-  unfolding faultOf
-  other h = rw (ne-eqb (length s) recordSize h) refl
+  other h = cut-short s (ne-eqb (length s) recordSize h)
 
   module _ (whole : length s ≡ recordSize) where
-    by-fields : faultOf s ≡ placeIn (firstFault (fieldsIn current s))
+    by-fields : faultOf s ≡ faultPlace (firstFault (fieldsIn current s))
     unfolding faultOf
     by-fields = rw (eq-eqb (length s) recordSize whole) refl
 

@@ -1,7 +1,7 @@
 -- Records that differ in nothing but perhaps the code: one is the other with its own code, both are well formed or neither, and the first fault is at the same place.
 use Prim.Native.Nat.{ℕ, zero, suc, _+_, _-_, _<_}
 use mathlib.Core.Path.{_≡_, refl, sym, ap, ap₂, _∙_}
-use mathlib.Core.Bool.{Bool, true, false, cond, _&&_}
+use mathlib.Core.Bool.{Bool, true, false, _&&_}
 use mathlib.Core.List.{List, _++_}
 use native.Mathlib.Omega.{arith}
 use lib.ListN.{length, getD, take, drop, length-drop}
@@ -11,12 +11,12 @@ use borrow.Author.Tests.{eqb-true}
 use Rattle.wire.specs.Numbers.{Bytes, wordAt, bytesAt}
 use Rattle.record.specs.Record.{Record, withCode}
 use Rattle.record.specs.Layout.{current, recordSize, atCode, bytesOf, recordOf}
-use Rattle.record.specs.Form.{Field, fieldsIn, allFine, InRange, wellFormed, FaultAt, firstFault, placeIn, faultOf, formBy}
+use Rattle.record.specs.Form.{fieldsIn, allFine, InRange, wellFormed, faultPlace, faultOf, formBy}
 use Rattle.record.proofs.Plans.{laid}
 use Rattle.record.proofs.Parts.{word-lt, word-at}
 use Rattle.record.proofs.Lens.{long}
 use Rattle.record.proofs.Stores.{set-codeIn}
-use Rattle.record.proofs.Faults.{code-blind}
+use Rattle.record.proofs.Faults.{code-blind, code-fault}
 use Rattle.record.proofs.RoundTrip.{read-back, in-range, write-back}
 use Rattle.record.proofs.Whole.{code-in}
 use Rattle.call.specs.declared.Ending.the-variants.{BadRecord}
@@ -73,17 +73,21 @@ module _ (s t : List ℕ) (same : SameButCode s t) (whole : length s ≡ recordS
   own-bytes : sets t atCode four ≡ t
   own-bytes = simp set-getD
 
-  pub other-is : t ≡ sets s atCode four
+  other-is : t ≡ sets s atCode four
   other-is =
       sym own-bytes ∙ sets-eq four t atCode (omega (arith, same .long)) ∙ ap₂ (λ (a b : List ℕ). a ++ four ++ b) front back ∙ sym (sets-eq four s atCode (omega arith))
 
-  -- "no field reads the code"
+  -- "Every code is well formed.": no field reads it
   same-fields : fieldsIn current t ≡ fieldsIn current s
   same-fields = ap (fieldsIn current) other-is ∙ code-blind current laid s four refl whole
 
+pub cut-short : (s : List ℕ) → eqb (length s) recordSize ≡ false → faultOf s ≡ 0
+unfolding faultOf
+cut-short s e = rw e refl
+
 -- both are well formed, or neither, and the first fault is at the same place
 module _ (s t : List ℕ) (same : SameButCode s t) where
-  pub well-same : wellFormed s ≡ wellFormed t
+  well-same : wellFormed s ≡ wellFormed t
   unfolding wellFormed
   well-same = rw (← (same .long)) (by (eqb (length s) recordSize) refl)
     where
@@ -93,11 +97,13 @@ module _ (s t : List ℕ) (same : SameButCode s t) where
 
   pub same-fault : faultOf s ≡ faultOf t
   unfolding faultOf
-  same-fault = rw (← (same .long)) (by (eqb (length s) recordSize) refl)
+  same-fault = by (eqb (length s) recordSize) refl
     where
-      by : (b : Bool) → eqb (length s) recordSize ≡ b → placeIn (cond b (firstFault (fieldsIn current s)) (FaultAt 0)) ≡ placeIn (cond b (firstFault (fieldsIn current t)) (FaultAt 0))
-      by true e = ap (λ (fs : List Field). placeIn (firstFault fs)) (sym (same-fields s t same (eqb-true (length s) recordSize e)))
-      by false e = refl
+      by : (b : Bool) → eqb (length s) recordSize ≡ b → faultOf s ≡ faultOf t
+      by true e =
+          let whole : length s ≡ recordSize = eqb-true (length s) recordSize e in
+          sym (ap faultOf (other-is s t same whole) ∙ ap faultPlace (code-fault current laid s (four s t same whole) refl))
+      by false e = cut-short s e ∙ sym (cut-short t (ap (λ (n : ℕ). eqb n recordSize) (sym (same .long)) ∙ e))
 
   pub same-record : badRecord s ≡ badRecord t
   same-record = ap₂ (λ (b : Bool) (k : ℕ). cause (bad (formBy b)) (BadRecord k)) well-same same-fault

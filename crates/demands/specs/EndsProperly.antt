@@ -18,6 +18,6 @@ pub record Unharmed (s o : List ℕ) (z : Outcome) : Type 0 where
 pub record EndsProperly : Type 0 where
   -- The numbers of the table of call results.
   pub numbers : ((place : ℕ) → resultOf (BadRecord place) ≡ 1) × (resultOf BadLength ≡ 2) × (resultOf NoRoom ≡ 3) × (resultOf NotFinite ≡ 4)
-  -- The first reason that applies gives its number, zero counts, and record and output as they were; the result is 0 exactly when none applies.
+  -- The first reason that applies gives its number and its place, zero counts, and record and output as they were; the result is 0 exactly when none applies.
   pub ends : (m : Made) (s : List ℕ) → let c = callOf (m .name) in Ends (c .reasons (m .lent) s) s (c .output (m .lent)) (outcomeOf m s)
   pub unharmed : (m : Made) (s : List ℕ) → let c = callOf (m .name) in Bytes s → c .OfBytes (m .lent) → Unharmed s (c .output (m .lent)) (outcomeOf m s)

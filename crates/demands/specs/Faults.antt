@@ -20,7 +20,7 @@ placesOf fs = map (λ (f : Field). f .place) fs
 abbrev pub finesOf : List Field → List Bool
 finesOf fs = map (λ (f : Field). f .fine) fs
 
--- length; version; flags; tries; power; step; mode; on/off; five input types; outputs; interval; filter word; name length; name; model; pending length; pending bytes; six pairs. The code is no field of them.
+-- length; version; flags; tries; power; step; mode; on/off; five input types; outputs; interval; filter word; name length; name; model; pending length; pending bytes; six pairs. The code is none of them.
 abbrev pub fieldPlaces : List ℕ
 fieldPlaces = 0 ∷ 2 ∷ 3 ∷ 4 ∷ 9 ∷ 11 ∷ 12 ∷ 13 ∷ 14 ∷ 15 ∷ 16 ∷ 17 ∷ 18 ∷ 19 ∷ 20 ∷ 21 ∷ 25 ∷ 26 ∷ 41 ∷ 56 ∷ 57 ∷ 75 ∷ 83 ∷ 91 ∷ 99 ∷ 107 ∷ 115 ∷ []
 
@@ -32,24 +32,24 @@ pub record FirstBad (s : List ℕ) (i : ℕ) : Type 0 where
 
 -- ---- worn records: bytes of a factory record replaced, and the place that the board then says
 
-pub record Byte : Type 0 where
+pub record Wear : Type 0 where
   pub at : ℕ
   pub value : ℕ
 
 pub record Worn : Type 0 where
-  pub bytes : List Byte
+  pub bytes : List Wear
   pub place : ℕ
 
-abbrev pub byte : ℕ → ℕ → Byte
-byte at value = record { at = at; value = value }
+abbrev pub wear : ℕ → ℕ → Wear
+wear at value = record { at = at; value = value }
 
-abbrev pub many : List Byte → ℕ → Worn
+abbrev pub many : List Wear → ℕ → Worn
 many bytes place = record { bytes = bytes; place = place }
 
 abbrev pub one : ℕ → ℕ → ℕ → Worn
-one at value place = many (byte at value ∷ []) place
+one at value place = many (wear at value ∷ []) place
 
-abbrev pub replaced : List Byte → List ℕ → List ℕ
+abbrev pub replaced : List Wear → List ℕ → List ℕ
 replaced [] s = s
 replaced (b ∷ bs) s = replaced bs (set s (b .at) (b .value))
 
@@ -83,9 +83,10 @@ worn =
     ∷ one 40 1 26
     ∷ one 25 10 26
     ∷ one 55 1 41
-    -- the pending length; a byte that cannot wait, and one behind those that do
+    -- the pending length; a byte that cannot wait, a frame that is whole at this length, a byte behind those that wait
     ∷ one 56 19 56
     ∷ one 56 1 57
+    ∷ many (wear 56 4 ∷ wear 57 0xAA ∷ wear 58 0x90 ∷ []) 57
     ∷ one 74 1 57
     -- each pair without a reading, by its first or its last byte
     ∷ one 75 1 75
@@ -95,12 +96,12 @@ worn =
     ∷ one 107 1 107
     ∷ one 122 1 115
     -- with a reading: a smallest value above the greatest, a greatest one that is infinite
-    ∷ many (byte 3 0x0C ∷ byte 119 0x3F ∷ []) 115
-    ∷ many (byte 3 0x0C ∷ byte 91 0x7F ∷ byte 92 0x80 ∷ []) 91
+    ∷ many (wear 3 0x0C ∷ wear 119 0x3F ∷ []) 115
+    ∷ many (wear 3 0x0C ∷ wear 91 0x7F ∷ wear 92 0x80 ∷ []) 91
     -- the first of two in record order; the code counts for nothing
-    ∷ many (byte 122 1 ∷ byte 2 2 ∷ []) 2
-    ∷ many (byte 13 3 ∷ byte 12 2 ∷ []) 12
-    ∷ many (byte 5 0xFF ∷ byte 13 3 ∷ []) 13
+    ∷ many (wear 122 1 ∷ wear 2 2 ∷ []) 2
+    ∷ many (wear 13 3 ∷ wear 12 2 ∷ []) 12
+    ∷ many (wear 5 0xFF ∷ wear 13 3 ∷ []) 13
     ∷ []
 
 -- what power-on answers to one, and what it should answer

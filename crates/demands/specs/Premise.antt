@@ -24,7 +24,7 @@ pub record SameButCode (s t : List ℕ) : Type 0 where
   pub before : (i : ℕ) → i < atCode → getD s i 0 ≡ getD t i 0
   pub behind : (i : ℕ) → atCode + 4 ≤ i → getD s i 0 ≡ getD t i 0
 
--- the same answer and the same output bytes, and records that differ in nothing but perhaps the code
+-- the same answer and the same output bytes, and records that differ in nothing but perhaps the code; "Demand 3 counts the place among the results.": it stands in the answer
 abbrev pub Alike : Outcome → Outcome → Type 0
 Alike z w = (z .answer ≡ w .answer) × (z .output ≡ w .output) × SameButCode (z .kept) (w .kept)
 

@@ -5,14 +5,14 @@ use mathlib.Core.Bool.{Bool, true, false}
 use mathlib.Core.List.{List, _++_}
 use native.Mathlib.Nat.{sub-zero}
 use native.Mathlib.Omega.{arith}
-use Rattle.record.specs.Form.{Field, several, firstFault, placeIn}
+use Rattle.record.specs.Form.{Field, several, firstFault, faultPlace}
 
 -- n fields of the same width, looked at from the i-th on, and those behind them
 module _ (n width : ℕ) (fine : ℕ → Bool) (at : ℕ) (behind : List Field) where
   unfoldable pub from : ℕ → ℕ
-  from i = placeIn (firstFault (several (n - i) width fine at (width * i) ++ behind))
+  from i = faultPlace (firstFault (several (n - i) width fine at (width * i) ++ behind))
 
-  pub from-all : placeIn (firstFault (several n width fine at 0 ++ behind)) ≡ from 0
+  pub from-all : faultPlace (firstFault (several n width fine at 0 ++ behind)) ≡ from 0
   unfolding from
   from-all = let e : width * 0 ≡ 0 = omega arith in rw (sub-zero n, e) refl
 
@@ -27,6 +27,6 @@ module _ (n width : ℕ) (fine : ℕ → Bool) (at : ℕ) (behind : List Field) 
   unfolding from
   from-fine i h e = let f : width * i + width ≡ width * (i + 1) = omega arith in rw (one-more i h, e, f) refl
 
-  pub from-none : (i : ℕ) → n ≤ i → from i ≡ placeIn (firstFault behind)
+  pub from-none : (i : ℕ) → n ≤ i → from i ≡ faultPlace (firstFault behind)
   unfolding from
   from-none i h = let e : n - i ≡ 0 = omega arith in rw e refl

@@ -2,7 +2,7 @@
 use Prim.Native.Nat.{ℕ}
 use mathlib.Core.List.{List, [], _∷_}
 use Rattle.record.specs.Layout.{Part, PowerHalf, StepByte, ModeByte, OnOffByte, InputBytes, OutputByte, IntervalByte, FilterWord, NamePart, ModelPart, PendingPart, PairsPart, current}
-use Rattle.record.specs.Form.{fieldsAt, firstFault, placeIn}
+use Rattle.record.specs.Form.{fieldsAt, firstFault, faultPlace}
 
 -- the parts of the current layout from one on
 abbrev pub pairParts : List Part
@@ -25,4 +25,4 @@ radioParts = PowerHalf ∷ StepByte ∷ ModeByte ∷ OnOffByte ∷ inputParts
 
 -- 0 if there is none
 abbrev pub faultFrom : List ℕ → List Part → ℕ
-faultFrom s ps = placeIn (firstFault (fieldsAt current s ps))
+faultFrom s ps = faultPlace (firstFault (fieldsAt current s ps))

@@ -38,19 +38,18 @@ use record::places::AT_SIZE;
 use record::places::AT_STEP;
 use record::places::AT_TRIES;
 use record::places::AT_VERSION;
-use record::places::CHANNELS;
 use record::places::FILTERS;
 use record::places::FOUR_BITS;
 use record::places::NAME_ROOM;
+use record::places::PAIRS;
 use record::places::PENDING_ROOM;
+use record::places::READING;
 use record::places::RECORD_SIZE;
 use record::places::SIZE_FIELD;
 use record::places::TRIES_MOST;
 use record::places::VERSION;
 
 const INPUTS: usize = AT_OUTPUTS - AT_INPUTS;
-
-const PAIRS: usize = CHANNELS as usize;
 
 // Whether a pair stands at a place: zeros before a reading, else finite with the smallest value not above the greatest.
 fn pair_fine(s: &[u8], at: usize, seen: bool) -> bool
@@ -70,7 +69,7 @@ fn pair_fault(s: &[u8]) -> u32
     requires { ⌜ recordSize ≤ length (now s) ⌝ }
     ensures { λ r. ⌜ r ≡ faultFrom (now (s .entry)) pairParts ⌝ }
 {
-    let seen = s[AT_FLAGS] / 8 % 2 == 1;
+    let seen = s[AT_FLAGS] / READING % 2 == 1;
     let mut i = 0;
     while i < PAIRS {
         let at = AT_PAIRS + 8 * i;

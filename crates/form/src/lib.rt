@@ -50,20 +50,19 @@ use record::places::AT_SIZE;
 use record::places::AT_STEP;
 use record::places::AT_TRIES;
 use record::places::AT_VERSION;
-use record::places::CHANNELS;
 use record::places::FILTERS;
 use record::places::FOUR_BITS;
 use record::places::MODEL_ROOM;
 use record::places::NAME_ROOM;
+use record::places::PAIRS;
 use record::places::PENDING_ROOM;
+use record::places::READING;
 use record::places::RECORD_SIZE;
 use record::places::SIZE_FIELD;
 use record::places::TRIES_MOST;
 use record::places::VERSION;
 use wire::Announced;
 use wire::Line;
-
-const PAIRS: usize = CHANNELS as usize;
 
 fn head_fine(s: &[u8]) -> bool
     requires { ⌜ atCode ≤ length (now s) ⌝ }
@@ -200,7 +199,7 @@ fn pairs_fine(s: &[u8]) -> bool
     requires { ⌜ recordSize ≤ length (now s) ⌝ }
     ensures { λ r. ⌜ r ≡ allFine (pairFields (now (s .entry))) ⌝ }
 {
-    if s[AT_FLAGS] / 8 % 2 == 1 {
+    if s[AT_FLAGS] / READING % 2 == 1 {
         return pairs_seen(s, AT_PAIRS);
     }
     all_zero(s, AT_PAIRS, RECORD_SIZE)

@@ -116,14 +116,14 @@ unfolding nameRange allZero zerosBehind waits serial look key
 faultIn p s = cond (eqb (length s) (planSize p)) (firstFault (fieldsIn p s)) (FaultAt 0)
 
 -- as a number, 0 if there is none
-abbrev pub placeIn : Fault → ℕ
-placeIn NoFault = 0
-placeIn (FaultAt place) = place
+abbrev pub faultPlace : Fault → ℕ
+faultPlace NoFault = 0
+faultPlace (FaultAt place) = place
 
 -- the same for the board's layout
 unfoldable pub faultOf : List ℕ → ℕ
 unfolding faultIn
-faultOf s = placeIn (faultIn current s)
+faultOf s = faultPlace (faultIn current s)
 
 -- what the check answers
 abbrev pub formBy : Bool → Form

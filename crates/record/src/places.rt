@@ -58,6 +58,9 @@ pub const PENDING_ROOM: usize = WAIT_MOST;
 
 pub const CHANNELS: u8 = 6;
 
+// As many as there are channels.
+pub const PAIRS: usize = CHANNELS as usize;
+
 // Filter words are below it.
 pub const FILTERS: u32 = 64;
 
