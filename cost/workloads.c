@@ -310,7 +310,7 @@ static int stack(void) {
         prepare(&workloads[i], sizeof input);
         paint();
         reads = false;
-        for (int call = CALL_FACTORY; call <= CALL_POWER_ON; call++) {
+        for (int call = 0; call < CALLS; call++) {
             request.call = (enum call)call;
             paint();
         }

@@ -1849,6 +1849,20 @@ static void test_read_back(void) {
     }
 }
 
+static void test_well_formed(void) {
+    test_well_formed_fields();
+    test_well_formed_texts();
+    test_well_formed_pending();
+    test_well_formed_pairs();
+}
+
+static void test_places(void) {
+    test_places_of_changes();
+    test_places_in_order();
+    test_places_without_reading();
+    test_places_of_lengths();
+}
+
 int main(void) {
     test_factory();
     test_power_on();
@@ -1871,14 +1885,8 @@ int main(void) {
     test_cuts();
     test_room();
     test_call_refusals();
-    test_well_formed_fields();
-    test_well_formed_texts();
-    test_well_formed_pending();
-    test_well_formed_pairs();
-    test_places_of_changes();
-    test_places_in_order();
-    test_places_without_reading();
-    test_places_of_lengths();
+    test_well_formed();
+    test_places();
     test_second_readings();
     test_samples();
     test_random_samples();
