@@ -29,14 +29,27 @@ module _ (Z : Type 0) (refuse : Ending → Z) (z : Z) where
   none-left [] n = refl
   none-left (c ∷ causes) n = rw (n .0) (none-left causes (n .1))
 
-  -- what holds of every refusal, and of what is left when no cause applies, holds of what is left
-  pub in-order : (P : Z → Type 0) (causes : List Cause) → ((why : Ending) → P (refuse why)) → (None causes → P z) → P (firstOf causes refuse z)
-  in-order P [] refuses next = next tt
-  in-order P (c ∷ causes) refuses next = pick (c .applies) refl (λ more. in-order P causes refuses more)
-    where
-      pick : (t : Bool) → c .applies ≡ t → ((None causes → P z) → P (firstOf causes refuse z)) → P (cond t (refuse (c .why)) (firstOf causes refuse z))
-      pick true e rest = refuses (c .why)
-      pick false e rest = rest (λ n. next (e, n))
+  module _ (P : Z → Type 0) where
+    -- of the refusal by each cause that applies
+    abbrev pub Each : List Cause → Type 0
+    Each [] = Unit {0}
+    Each (c ∷ causes) = (c .applies ≡ true → P (refuse (c .why))) × Each causes
+
+    -- what holds of these, and of what is left when no cause applies, holds of what is left
+    pub in-order-each : (causes : List Cause) → Each causes → (None causes → P z) → P (firstOf causes refuse z)
+    in-order-each [] refuses next = next tt
+    in-order-each (c ∷ causes) refuses next = pick (c .applies) refl (λ more. in-order-each causes (refuses .1) more)
+      where
+        pick : (t : Bool) → c .applies ≡ t → ((None causes → P z) → P (firstOf causes refuse z)) → P (cond t (refuse (c .why)) (firstOf causes refuse z))
+        pick true e rest = refuses .0 e
+        pick false e rest = rest (λ n. next (e, n))
+
+    every : ((why : Ending) → P (refuse why)) → (causes : List Cause) → Each causes
+    every refuses [] = tt
+    every refuses (c ∷ causes) = ((λ e. refuses (c .why)), every refuses causes)
+
+    pub in-order : (causes : List Cause) → ((why : Ending) → P (refuse why)) → (None causes → P z) → P (firstOf causes refuse z)
+    in-order causes refuses next = in-order-each causes (every refuses causes) next
 
 -- the same causes, as far as they are looked at
 abbrev pub SameCauses : List Cause → List Cause → Type 0

@@ -92,6 +92,7 @@ bytes-laws = record {
     malformed s,
     (below BadLength (λ e. omega arith) inputMost (length (l .input)), (below NoRoom (λ e. omega arith) (length (l .output)) (roomFor (length (recordOf s .pending) + length (l .input))), tt)),
   );
+  placed = λ l s. ((λ a. refl), ((λ a. tt), ((λ a. tt), tt)));
   size = λ l s n. well-size s (formed s (n .0));
   keeps = λ l s b g n. hunt-in (recordOf s) (l .input) g (in-range s b (formed s (n .0)));
   room = λ l s b g n.

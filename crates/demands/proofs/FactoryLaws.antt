@@ -1,12 +1,12 @@
 -- What the factory call brings for the demands.
 use Prim.Native.Nat.{ℕ}
-use mathlib.Core.Path.{_≡_, refl, ap}
+use mathlib.Core.Path.{_≡_, refl, sym, ap}
 use mathlib.Core.Bool.{not, true≢false}
 use mathlib.Core.List.{List, []}
 use native.Mathlib.Omega.{arith}
 use lib.ListN.{length}
 use lib.Dec.{eqb}
-use borrow.Author.Tests.{eqb-true, not-false}
+use borrow.Author.Tests.{eqb-true, not-true, not-false}
 use Rattle.record.specs.Layout.{recordSize, bytesOf}
 use Rattle.record.specs.Births as births
 use Rattle.record.proofs.Births.{factory-in}
@@ -16,7 +16,7 @@ use Rattle.call.specs.Calls.{factoryCauses, factoryCall}
 use Rattle.call.proofs.Unfolded.{factory-by}
 use Rattle.demands.specs.CallList.{factoryEntry}
 use Rattle.demands.proofs.Tests.{other}
-use Rattle.demands.proofs.OtherCode.{same-own}
+use Rattle.demands.proofs.OtherCode.{same-own, cut-short}
 use Rattle.demands.proofs.Laws.{Laws, left-by}
 
 no-tries : births.factory .tries ≡ 0
@@ -31,6 +31,7 @@ factory-laws = record {
   skips = λ l s. 0;
   chain = λ l s. factory-by s;
   decides = λ l s. (other (BadRecord 0) (λ e. omega arith) (length s) recordSize, tt);
+  placed = λ l s. ((λ a. sym (cut-short s (not-true (eqb (length s) recordSize) a))), tt);
   size = λ l s n. eqb-true (length s) recordSize (not-false (eqb (length s) recordSize) (n .0));
   keeps = λ l s b g n. factory-in;
   room = λ l s b g n. omega arith;

@@ -1,6 +1,6 @@
 -- Where a record is bad, from the laws of its first fault.
 use Prim.Native.Nat.{ℕ, zero, suc, _<_}
-use mathlib.Core.Path.{_≡_, refl, ap, _∙_}
+use mathlib.Core.Path.{_≡_, refl, _∙_}
 use mathlib.Core.Logic.{_≢_}
 use mathlib.Core.Bool.{Bool, true, false, not, cond, true≢false}
 use mathlib.Core.List.{List, [], _∷_}
@@ -12,13 +12,13 @@ use Rattle.record.specs.Layout.{current, recordSize, bytesOf}
 use Rattle.record.specs.Form.{Field, fieldsIn, allFine, wellFormed, firstFault, faultPlace, faultOf}
 use Rattle.record.specs.Births.{factory}
 use Rattle.call.specs.declared.Ending.the-variants.{BadRecord}
-use Rattle.call.specs.Outcome.{Outcome, refused, done}
+use Rattle.call.specs.Outcome.{refused, done}
 use Rattle.call.specs.Calls.{factoryCall, powerOnCall}
 use Rattle.call.proofs.Unfolded.{factory-by}
-use Rattle.demands.specs.CallList.{Malformed, Factory, PowerOn, BytesIn, SamplesIn, Name, callOf, Made, outcomeOf}
+use Rattle.demands.specs.CallList.{Malformed, callOf}
 use Rattle.demands.specs.Faults.{placesOf, finesOf, fieldPlaces, FirstBad, SaysWhere}
 use Rattle.demands.proofs.OtherCode.{cut-short, same-fault}
-use Rattle.demands.proofs.Laws.{ends-by, placeless}
+use Rattle.demands.proofs.Laws.{placeless, placed-by}
 use Rattle.demands.proofs.AllLaws.{laws-of}
 
 -- ---- the first fault of any fields
@@ -67,16 +67,7 @@ module _ (s : List ℕ) where
         let w = found (fieldsIn current s) (bad-fields m) in
         (w .0, record { there = within (fieldsIn current s) (w .0) (w .1); fault = w .1; fine = w .2 })
 
--- ---- the calls
-
-told : (m : Made) (s : List ℕ) → m .name ≢ Factory → Malformed s → outcomeOf m s .answer .place ≡ faultOf s
-told m s n h = by (m .name) (m .lent) n
-  where
-    by : (name : Name) (l : callOf name .Lent) → name ≢ Factory → callOf name .outcome l s .answer .place ≡ faultOf s
-    by Factory l n = absurd (n refl)
-    by PowerOn l n = ap (λ (z : Outcome). z .answer .place) (ends-by (callOf PowerOn) (laws-of PowerOn) l s .refuses .0 h)
-    by BytesIn l n = ap (λ (z : Outcome). z .answer .place) (ends-by (callOf BytesIn) (laws-of BytesIn) l s .refuses .0 h)
-    by SamplesIn l n = ap (λ (z : Outcome). z .answer .place) (ends-by (callOf SamplesIn) (laws-of SamplesIn) l s .refuses .0 h)
+-- ---- factory
 
 of-factory : (s : List ℕ) → factoryCall s .answer .place ≡ 0
 of-factory s = rw (factory-by s) (by (eqb (length s) recordSize))
@@ -93,7 +84,7 @@ says-where = record {
   first = λ s i whole. first s whole i;
   some = some;
   any-code = same-fault;
-  told = told;
+  told = λ m s. placed-by (callOf (m .name)) (laws-of (m .name)) (m .lent) s;
   of-factory = of-factory;
   silent = λ m s. placeless (callOf (m .name)) (laws-of (m .name)) (m .lent) s;
   worked = refl;

@@ -3,14 +3,14 @@ use Prim.Native.Nat.{ℕ, _≤_}
 use mathlib.Core.Path.{_≡_, refl, sym, _∙_}
 use mathlib.Core.Logic.{_≢_}
 use mathlib.Core.Bool.{true, false}
-use mathlib.Core.List.{List}
+use mathlib.Core.List.{List, [], _∷_}
 use native.Mathlib.Omega.{arith}
 use lib.ListN.{length, getD}
 use Rattle.wire.specs.Numbers.{Bytes}
 use Rattle.wire.proofs.PutLaws.{length-put}
 use Rattle.record.specs.Record.{Record}
 use Rattle.record.specs.Layout.{recordSize, atTries, bytesOf, recordOf}
-use Rattle.record.specs.Form.{InRange}
+use Rattle.record.specs.Form.{InRange, faultOf}
 use Rattle.record.proofs.Lens.{long, get-tries}
 use Rattle.record.proofs.RoundTrip.{well-formed}
 use Rattle.record.proofs.Whole.{bytes-bytes}
@@ -18,11 +18,23 @@ use Rattle.call.specs.declared.Ending.{Ending}
 use Rattle.call.specs.declared.Ending.the-variants.{Done, BadRecord, BadLength, NoRoom, NotFinite}
 use Rattle.call.specs.Outcome.{resultOf, faultyPlace, Outcome, refused, done, Cause, inOrder}
 use Rattle.call.specs.Reasons.{NoReason, Ends}
-use Rattle.call.proofs.InOrder.{None, SameCauses, DecidesAll, in-order, in-order-both, ends, none-left, no-reason}
+use Rattle.call.proofs.InOrder.{None, Each, SameCauses, DecidesAll, in-order, in-order-each, in-order-both, ends, none-left, no-reason}
 use Rattle.demands.specs.Premise.{SameButCode, Alike}
 use Rattle.demands.specs.CallList.{Malformed, Call}
 use Rattle.demands.specs.EndsProperly.{Unharmed}
 use Rattle.demands.proofs.Tests.{not-bad}
+
+-- a bad record is told with its place, by each cause that applies
+abbrev pub PlacedBy : List ℕ → Ending → Type 0
+PlacedBy s (BadRecord place) = place ≡ faultOf s
+PlacedBy s Done = Unit {0}
+PlacedBy s BadLength = Unit {0}
+PlacedBy s NoRoom = Unit {0}
+PlacedBy s NotFinite = Unit {0}
+
+abbrev pub Placed : List ℕ → List Cause → Type 0
+Placed s [] = Unit {0}
+Placed s (c ∷ causes) = (c .applies ≡ true → PlacedBy s (c .why)) × Placed s causes
 
 pub record Laws (c : Call) : Type 1 where
   -- its causes in their order, and what is left when none applies: a record, bytes written, bytes skipped
@@ -33,6 +45,8 @@ pub record Laws (c : Call) : Type 1 where
   pub chain : (l : c .Lent) (s : List ℕ) → c .outcome l s ≡ inOrder (causes l s) s (c .output l) (done (after l s) (out l s) (skips l s) (c .output l))
   -- each cause decides its reason
   pub decides : (l : c .Lent) (s : List ℕ) → DecidesAll (causes l s) (c .reasons l s)
+  -- and one that tells of a bad record has its place
+  pub placed : (l : c .Lent) (s : List ℕ) → Placed s (causes l s)
   -- if none applies, the record has its size, is left in range, and the output has room
   pub size : (l : c .Lent) (s : List ℕ) → None (causes l s) → length s ≡ recordSize
   pub keeps : (l : c .Lent) (s : List ℕ) → Bytes s → c .OfBytes l → None (causes l s) → InRange (after l s)
@@ -80,6 +94,24 @@ module _ (c : Call) (w : Laws c) (l : c .Lent) (s : List ℕ) where
       only-bad BadLength h = refl
       only-bad NoRoom h = refl
       only-bad NotFinite h = refl
+
+  -- which is that of its first fault
+  pub placed-by : c .outcome l s .answer .result ≡ 1 → c .outcome l s .answer .place ≡ faultOf s
+  placed-by = rw (w .chain l s) (in-order-each Outcome refuse finished Told (w .causes l s) (each (w .causes l s) (w .placed l s)) (λ n h. absurd (omega arith)))
+    where
+      Told : Outcome → Type 0
+      Told z = z .answer .result ≡ 1 → z .answer .place ≡ faultOf s
+
+      by : (why : Ending) → PlacedBy s why → resultOf why ≡ 1 → faultyPlace why ≡ faultOf s
+      by (BadRecord place) p h = p
+      by Done p h = absurd (omega arith)
+      by BadLength p h = absurd (omega arith)
+      by NoRoom p h = absurd (omega arith)
+      by NotFinite p h = absurd (omega arith)
+
+      each : (causes : List Cause) → Placed s causes → Each Outcome refuse finished Told causes
+      each [] p = tt
+      each (c ∷ causes) p = ((λ e. by (c .why) (p .0 e)), each causes (p .1))
 
   none : NoReason (c .reasons l s) → None (w .causes l s)
   none n = no-reason (w .causes l s) (c .reasons l s) (w .decides l s) n

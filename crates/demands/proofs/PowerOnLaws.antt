@@ -34,6 +34,7 @@ power-on-laws = record {
   skips = λ l s. 0;
   chain = λ l s. power-on-by s;
   decides = λ l s. (malformed s, tt);
+  placed = λ l s. ((λ a. refl), tt);
   size = λ l s n. well-size s (formed s (n .0));
   keeps = λ l s b g n. power-on-in (recordOf s) (in-range s b (formed s (n .0)));
   room = λ l s b g n. omega arith;

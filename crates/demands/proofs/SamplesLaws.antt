@@ -49,6 +49,7 @@ samples-laws = record {
     malformed s,
     (other BadLength (λ e. omega arith) (length (l .input)) sampleSize, (below NoRoom (λ e. omega arith) (length (l .output)) measuringSize, (stray NotFinite (λ e. omega arith) (l .input), tt))),
   );
+  placed = λ l s. ((λ a. refl), ((λ a. tt), ((λ a. tt), ((λ a. tt), tt))));
   size = λ l s n. well-size s (formed s (n .0));
   keeps = λ l s b g n. reading-in (recordOf s) (l .input) g (in-range s b (formed s (n .0))) (not-false (allFinite channels (l .input) 0) (n .1 .1 .1 .0));
   room = λ l s b g n. short (recordOf s .flags .sending) (l .input) (l .output) (ltb-false (length (l .output)) measuringSize (n .1 .1 .0));

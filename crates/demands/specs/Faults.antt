@@ -11,7 +11,7 @@ use Rattle.record.specs.Births.{factory}
 use Rattle.call.specs.declared.Answer.{Answer}
 use Rattle.call.specs.Calls.{factoryCall, powerOnCall}
 use Rattle.demands.specs.Premise.{SameButCode}
-use Rattle.demands.specs.CallList.{Malformed, Factory, Made, outcomeOf}
+use Rattle.demands.specs.CallList.{Malformed, Made, outcomeOf}
 
 -- the fields of a record in their order, as places and as tests
 abbrev pub placesOf : List Field → List ℕ
@@ -121,9 +121,9 @@ pub record SaysWhere : Type 0 where
   pub some : (s : List ℕ) → length s ≡ 123 → Malformed s → (i : ℕ) × FirstBad s i
   -- and the code plays no part in it, whatever else is wrong.
   pub any-code : (s t : List ℕ) → SameButCode s t → faultOf s ≡ faultOf t
-  -- "All calls that take a record pass it on."; factory looks at the length alone
-  pub told : (m : Made) (s : List ℕ) → m .name ≢ Factory → Malformed s → outcomeOf m s .answer .place ≡ faultOf s
-  pub of-factory : (s : List ℕ) → factoryCall s .answer .place ≡ 0
-  -- "0 in all other answers"
+  -- "All calls that take a record pass it on.": with result 1 it is the place of the answer; "0 in all other answers"
+  pub told : (m : Made) (s : List ℕ) → outcomeOf m s .answer .result ≡ 1 → outcomeOf m s .answer .place ≡ faultOf s
   pub silent : (m : Made) (s : List ℕ) → outcomeOf m s .answer .result ≢ 1 → outcomeOf m s .answer .place ≡ 0
+  -- Factory looks at the length alone, so its place is always 0.
+  pub of-factory : (s : List ℕ) → factoryCall s .answer .place ≡ 0
   pub worked : map answered worn ≡ map due worn
