@@ -1,4 +1,6 @@
 // Answers standard input as a board fresh from the factory does, reply bytes to standard output and nothing else.
+#![tactic(auto)]
+
 use libc::{STDIN_FILENO, STDOUT_FILENO};
 use record::places::RECORD_SIZE;
 use wire::sizes::{INPUT_MOST, ROOM_MOST};

@@ -1,4 +1,6 @@
 // The calls as C has them: four of the board, and the reader.
+#![tactic(auto)]
+
 ghost use Rattle.std.specs.Prelude.{[]};
 ghost use Rattle.call.specs.Outcome.{Leaves};
 ghost use Rattle.call.specs.Calls.{factory_call, power_on_call, bytes_call, samples_call};

@@ -1,4 +1,6 @@
 // Code over bytes: heads, writing, replies.
+#![tactic(auto)]
+
 pub mod heads;
 pub mod reply;
 pub mod write;

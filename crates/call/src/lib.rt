@@ -1,4 +1,6 @@
 // How a call ends, and what it returns.
+#![tactic(auto)]
+
 ghost use Rattle.std.specs.Prelude.{◌≡◌};
 ghost use Rattle.call.specs.Outcome.{result_of, faulty_place, no_counts};
 ghost use Rattle.call.specs.Read.{no_entries};

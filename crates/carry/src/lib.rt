@@ -1,4 +1,6 @@
 // One command carried out on the record in its bytes: judged, carried out, answered.
+#![tactic(auto)]
+
 ghost use Rattle.std.specs.Prelude.{◌≡◌, true, ◌+◌, ◌≤◌, length};
 ghost use Rattle.wire.specs.Sizes.{frame_most};
 ghost use Rattle.wire.specs.Serial.{is_head, head_of};

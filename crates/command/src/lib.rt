@@ -1,4 +1,6 @@
 // The words of the command tables and of the judge; what they mean is in the definitions.
+#![tactic(auto)]
+
 use record::Setting;
 
 // The commands of both tables, in the order of the tables; a setting that is one number has one that reads it and one that sets it. The definitions' word: in code a command is the arm of its number in `effect`.

@@ -1,4 +1,6 @@
 // The data of the reply to a command that is carried out, one function for each kind, in a buffer from a place on.
+#![tactic(auto)]
+
 ghost use Rattle.std.specs.Prelude.{◌≡◌, cond, [], ◌∷◌, ◌+◌, ◌-◌, ◌*◌, ◌≤◌, length, get_or, take};
 ghost use Rattle.wire.specs.Sizes.{data_most};
 ghost use Rattle.wire.specs.Numbers.{bytes_at};

@@ -1,4 +1,6 @@
 // One command carried out: behind the checks its number alone says which it is, and each arm is a row of the tables.
+#![tactic(auto)]
+
 ghost use Rattle.std.specs.Prelude.{◌≡◌, [], ◌+◌, ◌≤◌, length};
 ghost use Rattle.wire.specs.Sizes.{frame_most};
 ghost use Rattle.record.specs.InPlace.{Sound};

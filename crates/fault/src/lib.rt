@@ -1,4 +1,6 @@
 // The place of the first faulty field of a record, asked for behind the check's no. Each function looks at some parts and goes on to those behind them, so that the file has the fields in record order.
+#![tactic(auto)]
+
 ghost use Rattle.std.specs.Prelude.{◌≡◌, ◌+◌, ◌≤◌, length};
 ghost use Rattle.peak.specs.Pairs.{pair_fits, pair_at};
 ghost use Rattle.record.specs.Layout.{record_size};
@@ -7,7 +9,7 @@ ghost use Rattle.fault.specs.Rest.{fault_from, radio_parts, input_parts, switch_
 
 use form::{model_fine, name_fine, pending_fine};
 use limits::{INPUT_TYPE_MOST, MODE_MOST, ON_OFF_MOST, STEP_MOST, interval_fits, power_fits};
-use numbers::{half_at_lem, word_at};
+use numbers::{half_at, word_at};
 use peak::{INFINITY, above, reach};
 use record::places::{
     AT_FILTER, AT_FLAGS, AT_INPUTS, AT_INTERVAL, AT_MODE, AT_MODEL, AT_NAME, AT_NAME_LENGTH,
@@ -25,7 +27,7 @@ pub fn fault_of(s: &[u8]) -> u32
     if s.len() != RECORD_SIZE {
         return AT_SIZE as u32;
     }
-    if half_at_lem(s, AT_SIZE) != SIZE_FIELD {
+    if half_at(s, AT_SIZE) != SIZE_FIELD {
         return AT_SIZE as u32;
     }
     if s[AT_VERSION] != VERSION {
@@ -44,7 +46,7 @@ fn radio_fault(s: &[u8]) -> u32
     requires { record_size ≤ length s.now }
     ensures { result ≡ fault_from s.now radio_parts }
 {
-    if !power_fits(half_at_lem(s, AT_POWER)) {
+    if !power_fits(half_at(s, AT_POWER)) {
         return AT_POWER as u32;
     }
     if STEP_MOST < s[AT_STEP] {

@@ -1,4 +1,6 @@
 // The search for the next frame, broken head or waiting candidate in a stream, for the heads of a line.
+#![tactic(auto)]
+
 ghost use Rattle.std.specs.Prelude.{◌≡◌, ◌+◌, ◌≤◌, ◌<◌, length};
 ghost use Rattle.wire.specs.Sizes.{stream_most};
 ghost use Rattle.wire.specs.Serial.{heads_of, Noise};

@@ -1,4 +1,6 @@
 // Flags and tries of a record stored in its bytes, in every layout that has them at these places, one function for each change that a command can make. A flag is set or cleared by its bit, so that the byte keeps its other bits.
+#![tactic(auto)]
+
 ghost use Rattle.std.specs.Prelude.{true, false, ◌+◌, ◌<◌, get_or};
 ghost use Rattle.record.specs.Record.{with_opened, with_unlocked, with_sending, with_flags, with_tries};
 ghost use Rattle.record.specs.Layout.{FlagByte, TriesByte, at_flags, at_tries};

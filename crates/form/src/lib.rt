@@ -1,4 +1,6 @@
 // Which bytes are a board record: one function for each group of fields, in record order.
+#![tactic(auto)]
+
 ghost use Rattle.std.specs.Prelude.{◌≡◌, true, false, ◌++◌, ◌+◌, ◌*◌, ◌≤◌, ◌<◌, length, take, drop};
 ghost use Rattle.wire.specs.Numbers.{bytes_at};
 ghost use Rattle.wire.specs.Ranges.{fits};
@@ -16,7 +18,7 @@ use buffer::heads::announced_by;
 use limits::{INPUT_TYPE_MOST, MODE_MOST, ON_OFF_MOST, STEP_MOST, interval_fits, power_fits};
 use low::{all_zero, eight_at};
 use numbers::zeros::{first_zero, zeros};
-use numbers::{half_at_lem, word_at};
+use numbers::{half_at, word_at};
 use peak::{INFINITY, above, reach};
 use record::Form;
 use record::places::{
@@ -31,7 +33,7 @@ fn head_fine(s: &[u8]) -> bool
     requires { at_code ≤ length s.now }
     ensures { result ≡ all_fine (head_fields s.now) }
 {
-    (half_at_lem(s, AT_SIZE) == SIZE_FIELD)
+    (half_at(s, AT_SIZE) == SIZE_FIELD)
         & (s[AT_VERSION] == VERSION)
         & (s[AT_FLAGS] < FOUR_BITS)
         & (s[AT_TRIES] <= TRIES_MOST)
@@ -41,7 +43,7 @@ fn radio_fine(s: &[u8]) -> bool
     requires { at_inputs ≤ length s.now }
     ensures { result ≡ all_fine (radio_fields s.now) }
 {
-    let power = power_fits(half_at_lem(s, AT_POWER));
+    let power = power_fits(half_at(s, AT_POWER));
     power & (s[AT_STEP] <= STEP_MOST) & (s[AT_MODE] <= MODE_MOST) & (s[AT_ON_OFF] <= ON_OFF_MOST)
 }
 

@@ -1,4 +1,6 @@
 // Received bytes: every frame of the stream carried out, and what waits kept.
+#![tactic(auto)]
+
 ghost use Rattle.std.specs.Prelude.{◌≡◌, ◌+◌, ◌-◌, ◌≤◌, length, take, drop};
 ghost use Rattle.wire.specs.Sizes.{frame_most, wait_most, input_most, stream_most, join_most};
 ghost use Rattle.wire.specs.Serial.{heads_of};

@@ -1,4 +1,6 @@
 // The checks of a frame, in the order of the refusals: each answers an enum, and the first that does not pass decides.
+#![tactic(auto)]
+
 ghost use Rattle.std.specs.Prelude.{◌≡◌, true, [], ◌≤◌, length};
 ghost use Rattle.record.specs.Layout.{FlagByte, at_flags};
 ghost use Rattle.record.specs.InPlace.{Sound, Shows, SoundAt, ShowsAt};

@@ -1,4 +1,6 @@
 // The range, the place and the width of each setting in code.
+#![tactic(auto)]
+
 ghost use Rattle.std.specs.Prelude.{◌≡◌, ◌-◌, ◌≤◌, length, take, drop};
 ghost use Rattle.wire.specs.Ranges.{fits};
 ghost use Rattle.record.specs.Limits.{power_range, interval_range, name_range};

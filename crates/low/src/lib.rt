@@ -1,4 +1,6 @@
 // Words of four and eight bytes, low byte first, which the compiler reads and stores at once.
+#![tactic(auto)]
+
 ghost use Rattle.std.specs.Prelude.{◌≡◌, ◌+◌, ◌-◌, ◌≤◌, ◌<◌, length, take, drop};
 ghost use Rattle.wire.specs.Numbers.{bytes_at, put};
 ghost use Rattle.wire.specs.Zeros.{all_zero};

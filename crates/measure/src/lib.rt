@@ -1,4 +1,6 @@
 // Samples: one reading of six channels in, a measuring frame out.
+#![tactic(auto)]
+
 ghost use Rattle.std.specs.Prelude.{◌≡◌, ◌≤◌, length};
 ghost use Rattle.wire.specs.Numbers.{put};
 ghost use Rattle.record.specs.Layout.{channels};

@@ -1,4 +1,6 @@
 // Numbers from bytes, high byte first, and their bytes copied.
+#![tactic(auto)]
+
 ghost use Rattle.std.specs.Prelude.{◌≡◌, ◌+◌, ◌≤◌, length};
 ghost use Rattle.wire.specs.Numbers.{word16, word32, half_at, word_at, Narrow, bytes_at, put};
 
@@ -16,7 +18,7 @@ fn word_of(a: u8, b: u8, c: u8, d: u8) -> u32
     (a as u32) * 16777216 + (b as u32) * 65536 + (c as u32) * 256 + (d as u32)
 }
 
-pub fn half_at_lem(s: &[u8], at: usize) -> u16
+pub fn half_at(s: &[u8], at: usize) -> u16
     requires { at + 2 ≤ length s.now }
     ensures { result ≡ half_at s.now at }
 {

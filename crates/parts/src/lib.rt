@@ -1,4 +1,6 @@
 // Name, model and pending bytes of a record stored in its bytes, with zeros behind them, in every layout that has them at these places.
+#![tactic(auto)]
+
 pub mod fresh;
 
 ghost use Rattle.std.specs.Prelude.{◌≡◌, [], ◌+◌, ◌-◌, ◌≤◌, length};

@@ -1,4 +1,6 @@
 // Peaks: the greatest and the smallest value of a channel. Values are compared by their patterns as whole numbers, and nothing is computed in floats.
+#![tactic(auto)]
+
 ghost use Rattle.std.specs.Prelude.{◌≡◌, ◌+◌, ◌%◌, max, true, not, T, if◌then◌else◌, is_nan, nat_le};
 ghost use Rattle.peak.specs.Pairs.{finite, less};
 ghost use Rattle.peak.specs.Floats.{float_of, bits_of, renewed, is_raised, is_lowered};

@@ -1,4 +1,6 @@
 // 54, 55: whether the parameters of a command are in their ranges, from the left.
+#![tactic(auto)]
+
 ghost use Rattle.std.specs.Prelude.{◌≡◌, ◌≤◌, length, get_or, pos};
 ghost use Rattle.wire.specs.Numbers.{signed8};
 ghost use Rattle.wire.specs.Ranges.{within, unsigned, also};
@@ -8,7 +10,7 @@ ghost use Rattle.record.specs.Settings.{range_by, sheet_of, setting_width};
 ghost use Rattle.command.specs.Rows.{input_channel, output_number, output_value, pair_channel};
 
 use limits::{INPUT_TYPE_MOST, INTERVAL_MOST, interval_fits, limits_of, name_bytes, power_fits};
-use numbers::{half_at_lem, word_at};
+use numbers::{half_at, word_at};
 use record::places::{CHANNELS, FILTERS};
 use record::{Limits, Setting};
 use wire::Range;
@@ -98,7 +100,7 @@ pub fn setting_range(k: Setting, p: &[u8]) -> Range
     let limits = limits_of(k);
     match limits {
         Limits::Upto(most) => signed_range(0, most, p[0]),
-        Limits::OfPower => power_range(half_at_lem(p, 0)),
+        Limits::OfPower => power_range(half_at(p, 0)),
         Limits::OfInterval => interval_range(p[0]),
         Limits::OfFilter => filter_range(FILTERS, word_at(p, 0)),
     }

@@ -1,4 +1,6 @@
 // Commands whose range is looked at, and those of a setting, one function each: out of range nothing is written.
+#![tactic(auto)]
+
 ghost use Rattle.std.specs.Prelude.{◌≡◌, ◌+◌, ◌≤◌, length};
 ghost use Rattle.wire.specs.Sizes.{frame_most};
 ghost use Rattle.record.specs.InPlace.{Sound};

@@ -1,4 +1,6 @@
 // The reader: every reply and measuring frame of a capture, as an entry of a list.
+#![tactic(auto)]
+
 pub mod heads;
 
 ghost use Rattle.std.specs.Prelude.{◌≡◌, ◌+◌, ◌*◌, ◌/◌, ◌≤◌, length, take, drop};

@@ -1,4 +1,6 @@
 // A reading taken into the record.
+#![tactic(auto)]
+
 use peak::Peak;
 
 pub mod peaks;

@@ -1,4 +1,6 @@
 // Bytes: received bytes in, replies out.
+#![tactic(auto)]
+
 ghost use Rattle.call.specs.Outcome.{Leaves};
 ghost use Rattle.call.specs.Calls.{bytes_call};
 

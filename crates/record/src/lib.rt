@@ -1,4 +1,6 @@
 // The board record in code.
+#![tactic(auto)]
+
 pub mod places;
 
 // What the check of a byte record says.

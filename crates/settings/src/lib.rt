@@ -1,4 +1,6 @@
 // Settings and outputs of a record stored in its bytes, in every layout that has them at these places.
+#![tactic(auto)]
+
 ghost use Rattle.std.specs.Prelude.{◌≡◌, ◌-◌, ◌^◌, ◌≤◌, length, set, eqb};
 ghost use Rattle.record.specs.Record.{with_output, with_inputs, with_settings, with_outputs};
 ghost use Rattle.record.specs.Layout.{InputBytes, OutputByte, at_inputs, at_outputs};

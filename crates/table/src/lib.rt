@@ -1,4 +1,6 @@
 // What the entry of a number decides: whether it is built, how many parameters it takes; which setting a number reads or sets.
+#![tactic(auto)]
+
 ghost use Rattle.std.specs.Prelude.{◌≡◌, true, ◌/◌, ◌<◌, eqb};
 ghost use Rattle.command.specs.Tables.{counted_in};
 ghost use Rattle.command.specs.Entries.{numbered_by, span_in, unpacked, is_tidy, rows_say, place_of, table_size, entries};

@@ -1,4 +1,6 @@
 // Bytes on the wire: sizes, and what a byte may announce.
+#![tactic(auto)]
+
 pub mod sizes;
 
 // What a range says of a value.

@@ -1,4 +1,6 @@
 // Up to 24 bytes written without a loop, by words that may overlap: a loop becomes a call of memcpy or memset.
+#![tactic(auto)]
+
 ghost use Rattle.std.specs.Prelude.{◌≡◌, ◌+◌, ◌-◌, ◌≤◌, ◌<◌, length, replicate};
 ghost use Rattle.wire.specs.Numbers.{put};
 
