@@ -4,7 +4,7 @@
 use record::Setting;
 
 // The commands of both tables, in the order of the tables; a setting that is one number has one that reads it and one that sets it. The definitions' word: in code a command is the arm of its number in `effect`.
-#[derive(Drop)]
+#[derive(Clone, Copy)]
 pub enum Command {
     Open,
     Close,
@@ -25,7 +25,7 @@ pub enum Command {
 }
 
 // What a row says of its number; the definitions' word.
-#[derive(Drop)]
+#[derive(Clone, Copy)]
 pub enum Listed {
     Built(Command),
     NotBuilt,
@@ -33,7 +33,7 @@ pub enum Listed {
 }
 
 // What an entry of the table says of its number.
-#[derive(Drop)]
+#[derive(Clone, Copy)]
 pub enum Numbered {
     AsCommand,
     AsNotBuilt,
@@ -41,14 +41,14 @@ pub enum Numbered {
 }
 
 // Whether the number of parameters is one that the command takes.
-#[derive(Drop)]
+#[derive(Clone, Copy)]
 pub enum Counted {
     Right,
     Wrong,
 }
 
 // What a command needs of the board before it is carried out; the definitions' word, in code a part of the entry.
-#[derive(Drop)]
+#[derive(Clone, Copy)]
 pub enum Need {
     Nothing,
     Opened,
@@ -58,7 +58,7 @@ pub enum Need {
 }
 
 // Whether the board gives it.
-#[derive(Drop)]
+#[derive(Clone, Copy)]
 pub enum Access {
     Given,
     Missing,
@@ -66,7 +66,7 @@ pub enum Access {
 }
 
 // Why a command is refused.
-#[derive(Drop)]
+#[derive(Clone, Copy)]
 pub enum Refusal {
     Unknown,
     Unbuilt,
@@ -78,14 +78,14 @@ pub enum Refusal {
 }
 
 // What becomes of a frame; the definitions' word.
-#[derive(Drop)]
+#[derive(Clone, Copy)]
 pub enum Verdict {
     Do(Command),
     Refuse(Refusal),
 }
 
 // What the checks that an entry decides say of it: number, count and access.
-#[derive(Drop)]
+#[derive(Clone, Copy)]
 pub enum Judged {
     Passed,
     Refused(Refusal),

@@ -4,14 +4,14 @@
 pub mod places;
 
 // What the check of a byte record says.
-#[derive(Drop)]
+#[derive(Clone, Copy)]
 pub enum Form {
     Good,
     Bad,
 }
 
 // The settings that are one number each, in record order.
-#[derive(Drop)]
+#[derive(Clone, Copy)]
 pub enum Setting {
     Power,
     Step,
@@ -22,7 +22,7 @@ pub enum Setting {
 }
 
 // The kinds of range that such a setting can have: 0 to a number, or one of its own.
-#[derive(Drop)]
+#[derive(Clone, Copy)]
 pub enum Limits {
     Upto(u8),
     OfPower,

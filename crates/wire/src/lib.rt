@@ -4,7 +4,7 @@
 pub mod sizes;
 
 // What a range says of a value.
-#[derive(Drop)]
+#[derive(Clone, Copy)]
 pub enum Range {
     Fits,
     Big,
@@ -12,20 +12,20 @@ pub enum Range {
 }
 
 // Whose heads a stream is hunted for.
-#[derive(Drop)]
+#[derive(Clone, Copy)]
 pub enum Line {
     Board,
 }
 
 // What the byte behind an AA announces: a frame with so many parameters, or none.
-#[derive(Drop)]
+#[derive(Clone, Copy)]
 pub enum Announced {
     Params(usize),
     NoFrame,
 }
 
 // What the front of a stream says of a frame's size: none begins here, more bytes are needed to say, 4 + n bytes.
-#[derive(Drop)]
+#[derive(Clone, Copy)]
 pub enum Size {
     NoHead,
     NeedMore,
