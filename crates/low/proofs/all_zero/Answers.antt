@@ -1,11 +1,6 @@
 -- `all_zero`: the bits of all words are the bits of all bytes.
-use Prim.Native.Nat.{◌-◌, ◌≤◌, ◌<◌}
-use mathlib.Core.Path.{◌≡◌, ◌∙◌}
-use mathlib.Core.Bool.{◌&&◌}
+use mathlib.Core.Path.{◌∙◌}
 use native.Mathlib.Omega.{arith}
-use lib.Dec.{eqb}
-use Rattle.wire.specs.Zeros.{all_zero}
-use Rattle.wire.proofs.ScanLaws.{part}
 use Rattle.low.proofs.ZeroWords.{zeros-word, zeros-first, zeros-more, zeros-last}
 use Rattle.low.proofs.all_zero.Goals as goal
 

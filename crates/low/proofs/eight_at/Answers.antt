@@ -1,6 +1,5 @@
 -- `eight_at`: two words of four bytes are one of eight.
 use Rattle.low.proofs.LowLaws.{eight-read}
-use borrow.Author.Rules.{rules}
 use Rattle.low.proofs.eight_at.Goals as goal
 
 pub returns : goal.returns

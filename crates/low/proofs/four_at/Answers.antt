@@ -1,6 +1,5 @@
 -- `four_at`: the four bytes are those of the number.
 use Rattle.low.proofs.LowLaws.{four-read}
-use borrow.Author.Rules.{rules}
 use Rattle.low.proofs.four_at.Goals as goal
 
 pub returns : goal.returns

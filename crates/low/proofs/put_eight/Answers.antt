@@ -1,6 +1,5 @@
 -- `put_eight`: its lower and its upper four bytes are the bytes of the number.
 use Rattle.low.proofs.LowLaws.{eight-stores}
-use borrow.Author.Rules.{rules}
 use Rattle.low.proofs.put_eight.Goals as goal
 
 pub returns : goal.returns

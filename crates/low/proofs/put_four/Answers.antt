@@ -2,7 +2,6 @@
 use Rattle.low.proofs.LowLaws.{four-stores}
 use native.Mathlib.Omega.{arith}
 use lib.ListN.{length-set}
-use borrow.Author.Rules.{rules}
 use Rattle.low.proofs.put_four.Goals as goal
 
 pub bounds-buffer-at-2 : goal.bounds-buffer-at-2

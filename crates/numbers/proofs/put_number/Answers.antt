@@ -2,7 +2,6 @@
 use native.Mathlib.Omega.{arith}
 use lib.ListN.{length-set}
 use Rattle.wire.proofs.PutLaws.{narrow, number-one, number-two, number-four}
-use borrow.Author.Rules.{rules}
 use Rattle.numbers.proofs.put_number.Goals as goal
 
 pub bounds-s-from : goal.bounds-s-from

@@ -1,5 +1,5 @@
 -- `above`: each way out is what the keys say for patterns of that sign.
-use Rattle.std.proofs.Common.{◌<◌, sym, ◌∙◌, leb-false, leb-true}
+use Rattle.std.proofs.Common.{sym, ◌∙◌, leb-false, leb-true}
 use Rattle.peak.proofs.Patterns.{above-negative, above_zero, above-further, above-not}
 use Rattle.peak.proofs.above.Goals as goal
 

@@ -1,5 +1,4 @@
 -- `lowers`: the first reading does, a later one by its pattern and that of the smallest value.
-use Rattle.std.proofs.Common.{rules}
 use Rattle.peak.proofs.lowers.Goals as goal
 
 pub returns-then-seen : goal.returns-then-seen

@@ -1,5 +1,4 @@
 -- `raises`: the first reading does, a later one by its pattern and that of the greatest value.
-use Rattle.std.proofs.Common.{rules}
 use Rattle.peak.proofs.raises.Goals as goal
 
 pub returns-then-seen : goal.returns-then-seen

@@ -1,5 +1,5 @@
 -- `updated`: each value is the reading where it is replaced.
-use Rattle.std.proofs.Common.{refl, rules}
+use Rattle.std.proofs.Common.{refl}
 use Rattle.peak.proofs.updated.Goals as goal
 
 pub returns : goal.returns

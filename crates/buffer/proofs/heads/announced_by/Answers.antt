@@ -1,5 +1,4 @@
 -- `announced_by`: what a byte announces on a line is that of the line's heads.
-use borrow.Author.Rules.{rules}
 use mathlib.Core.Path.{◌∙◌}
 use Rattle.wire.proofs.HeadLaws.{board-line}
 use Rattle.buffer.proofs.heads.announced_by.Goals as goal

@@ -1,7 +1,6 @@
 -- `serial_head`: 9n and An announce n parameters, other bytes nothing.
 use Rattle.wire.proofs.HeadLaws.{low-none, high-none, head-params}
 use native.Mathlib.Omega.{arith}
-use borrow.Author.Rules.{rules}
 use Rattle.buffer.proofs.heads.serial_head.Goals as goal
 
 pub returns-then-b-lt144 : goal.returns-then-b-lt144

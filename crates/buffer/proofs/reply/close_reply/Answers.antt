@@ -2,7 +2,6 @@
 use native.Mathlib.Omega.{arith}
 use Rattle.wire.proofs.ReplyLaws.{kind-room}
 use lib.ListN.{length-set}
-use borrow.Author.Rules.{rules}
 use Rattle.buffer.proofs.reply.close_reply.Goals as goal
 
 pub overflow_sub-out : goal.overflow_sub-out

@@ -1,9 +1,8 @@
 -- `clear`: the loop leaves zeros from one place up to another.
 use native.Mathlib.Omega.{arith}
-use Rattle.wire.specs.Numbers.{put}
 use Rattle.wire.proofs.PutLaws.{put-nil, put-zeros}
-use lib.ListN.{length, replicate, length-set}
-use Prim.Native.Nat.{◌+◌, ◌-◌, ◌≤◌}
+use lib.ListN.{length-set}
+use Prim.Native.Nat.{◌+◌, ◌-◌}
 use mathlib.Core.Path.{◌≡◌, refl, sym, ◌∙◌}
 use Rattle.buffer.proofs.write.clear.Goals as goal
 

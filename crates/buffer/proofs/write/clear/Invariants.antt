@@ -1,10 +1,8 @@
 -- `clear`: the loop leaves zeros from one place up to another.
-use native.Mathlib.Omega.{arith}
 use Rattle.wire.specs.Numbers.{put}
-use Rattle.wire.proofs.PutLaws.{put-nil, put-zeros}
-use lib.ListN.{length, replicate, length-set}
-use Prim.Native.Nat.{◌+◌, ◌-◌, ◌≤◌}
-use mathlib.Core.Path.{◌≡◌, refl, sym, ◌∙◌}
+use lib.ListN.{length, replicate}
+use Prim.Native.Nat.{◌-◌, ◌≤◌}
+use mathlib.Core.Path.{◌≡◌}
 use Rattle.buffer.proofs.write.clear.Given as goal
 
 abbrev pub invariant-loop-i : goal.invariant-loop-i

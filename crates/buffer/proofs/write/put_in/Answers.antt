@@ -1,10 +1,9 @@
 -- `put_in`: the loop leaves the bytes in the buffer from a place on.
 use native.Mathlib.Omega.{arith}
-use Rattle.wire.specs.Numbers.{put}
 use Rattle.wire.proofs.PutLaws.{put-nil, put-more}
 use lib.Seq.{take-length}
-use lib.ListN.{length, take, get_or, length-set}
-use Prim.Native.Nat.{◌+◌, ◌-◌, ◌≤◌}
+use lib.ListN.{length, get_or, length-set}
+use Prim.Native.Nat.{◌+◌}
 use mathlib.Core.Path.{◌≡◌, refl, sym, ◌∙◌}
 use Rattle.buffer.proofs.write.put_in.Goals as goal
 

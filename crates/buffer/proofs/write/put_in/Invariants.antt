@@ -1,11 +1,8 @@
 -- `put_in`: the loop leaves the bytes in the buffer from a place on.
-use native.Mathlib.Omega.{arith}
 use Rattle.wire.specs.Numbers.{put}
-use Rattle.wire.proofs.PutLaws.{put-nil, put-more}
-use lib.Seq.{take-length}
-use lib.ListN.{length, take, get_or, length-set}
-use Prim.Native.Nat.{◌+◌, ◌-◌, ◌≤◌}
-use mathlib.Core.Path.{◌≡◌, refl, sym, ◌∙◌}
+use lib.ListN.{length, take}
+use Prim.Native.Nat.{◌-◌, ◌≤◌}
+use mathlib.Core.Path.{◌≡◌}
 use Rattle.buffer.proofs.write.put_in.Given as goal
 
 abbrev pub invariant-loop-i : goal.invariant-loop-i

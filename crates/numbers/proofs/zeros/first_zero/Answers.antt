@@ -1,10 +1,7 @@
 -- `first_zero`: the place found is that of the first zero, or the end.
 use native.Mathlib.Omega.{arith}
-use Prim.Native.Nat.{◌+◌, ◌-◌, ◌≤◌}
-use mathlib.Core.Path.{◌≡◌, refl}
-use lib.ListN.{length}
-use Rattle.wire.proofs.ScanLaws.{part, first-skip, first-hit, first-end}
-use Rattle.wire.specs.Zeros.{before_zero}
+use mathlib.Core.Path.{refl}
+use Rattle.wire.proofs.ScanLaws.{first-skip, first-hit, first-end}
 use Rattle.numbers.proofs.zeros.first_zero.Goals as goal
 
 pub loop-at-init : goal.loop-at-init

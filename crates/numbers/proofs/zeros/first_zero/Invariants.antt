@@ -1,9 +1,8 @@
 -- `first_zero`: the place found is that of the first zero, or the end.
-use native.Mathlib.Omega.{arith}
 use Prim.Native.Nat.{◌+◌, ◌-◌, ◌≤◌}
-use mathlib.Core.Path.{◌≡◌, refl}
+use mathlib.Core.Path.{◌≡◌}
 use lib.ListN.{length}
-use Rattle.wire.proofs.ScanLaws.{part, first-skip, first-hit, first-end}
+use Rattle.wire.proofs.ScanLaws.{part}
 use Rattle.wire.specs.Zeros.{before_zero}
 use Rattle.numbers.proofs.zeros.first_zero.Given as goal
 

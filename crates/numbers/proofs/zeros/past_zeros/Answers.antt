@@ -1,9 +1,7 @@
 -- `past_zeros`: the words that are passed are zeros.
 use native.Mathlib.Omega.{arith}
-use Prim.Native.Nat.{◌-◌, ◌≤◌}
-use mathlib.Core.Path.{◌≡◌, refl, sym, ◌∙◌}
-use Rattle.wire.proofs.ScanLaws.{part, zero_word}
-use Rattle.wire.specs.Zeros.{all_zero}
+use mathlib.Core.Path.{refl, sym, ◌∙◌}
+use Rattle.wire.proofs.ScanLaws.{zero_word}
 use Rattle.numbers.proofs.zeros.past_zeros.Goals as goal
 
 pub loop-behind-init : goal.loop-behind-init

@@ -1,8 +1,7 @@
 -- `past_zeros`: the words that are passed are zeros.
-use native.Mathlib.Omega.{arith}
 use Prim.Native.Nat.{◌-◌, ◌≤◌}
-use mathlib.Core.Path.{◌≡◌, refl, sym, ◌∙◌}
-use Rattle.wire.proofs.ScanLaws.{part, zero_word}
+use mathlib.Core.Path.{◌≡◌}
+use Rattle.wire.proofs.ScanLaws.{part}
 use Rattle.wire.specs.Zeros.{all_zero}
 use Rattle.numbers.proofs.zeros.past_zeros.Given as goal
 

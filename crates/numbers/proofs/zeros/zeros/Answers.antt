@@ -1,10 +1,7 @@
 -- `zeros`: the loop finds a byte that is not zero exactly where there is one.
 use native.Mathlib.Omega.{arith}
-use Prim.Native.Nat.{◌-◌, ◌≤◌}
-use mathlib.Core.Path.{◌≡◌, sym, ◌∙◌}
-use Rattle.wire.proofs.ScanLaws.{part, zero-skip, zero-hit, zero-end}
-use Rattle.wire.specs.Zeros.{all_zero}
-use borrow.Author.Rules.{rules}
+use mathlib.Core.Path.{sym, ◌∙◌}
+use Rattle.wire.proofs.ScanLaws.{zero-skip, zero-hit, zero-end}
 use Rattle.numbers.proofs.zeros.zeros.Goals as goal
 
 pub loop-at-init : goal.loop-at-init

@@ -1,10 +1,8 @@
 -- `zeros`: the loop finds a byte that is not zero exactly where there is one.
-use native.Mathlib.Omega.{arith}
 use Prim.Native.Nat.{◌-◌, ◌≤◌}
-use mathlib.Core.Path.{◌≡◌, sym, ◌∙◌}
-use Rattle.wire.proofs.ScanLaws.{part, zero-skip, zero-hit, zero-end}
+use mathlib.Core.Path.{◌≡◌}
+use Rattle.wire.proofs.ScanLaws.{part}
 use Rattle.wire.specs.Zeros.{all_zero}
-use borrow.Author.Rules.{rules}
 use Rattle.numbers.proofs.zeros.zeros.Given as goal
 
 abbrev pub invariant-loop-at : goal.invariant-loop-at
