@@ -6,7 +6,7 @@ ghost use Rattle.call.specs.Outcome.{result_of, faulty_place, no_counts};
 ghost use Rattle.call.specs.Read.{no_entries};
 
 // A bad record has the place of its first faulty field.
-#[derive(Drop)]
+#[derive(Clone, Copy)]
 pub enum Ending {
     Done,
     BadRecord(u32),

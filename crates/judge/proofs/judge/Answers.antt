@@ -1,0 +1,68 @@
+-- `judge`: the first check that does not pass is what the entry decides.
+use native.Mathlib.Omega.{arith}
+use mathlib.Core.Path.{◌≡◌, sym, ◌∙◌}
+use mathlib.Core.Logic.{⊎_elim}
+use lib.ListN.{length}
+use Rattle.command.specs.declared.Numbered.TheVariants.{AsCommand}
+use Rattle.command.specs.declared.Counted.TheVariants.{Right}
+use Rattle.command.specs.declared.Access.TheVariants.{Given, Missing, WrongCode}
+use Rattle.command.specs.Tables.{counted_in}
+use Rattle.command.specs.Entries.{numbered_by, span_in, unpacked}
+use Rattle.judge.proofs.Checks.{may-ask, by-unbuilt, by-unknown, by_count_lem, by-access, left-missing}
+use borrow.Author.Rules.{rules}
+use Rattle.judge.proofs.judge.Goals as goal
+
+-- the start, from the place behind each check that passed
+abbrev at-number : tie.After-enum-told → tie.Start
+at-number c = c.before.before.before.before.before
+
+abbrev at_count : tie.After-enum-told3 → tie.After-enum-told
+at_count c = c.before.before.before
+
+-- what each of them found
+number_is : (c : tie.After-enum-told) → numbered_by (unpacked (at-number c).args.entry) ≡ AsCommand
+number_is c = sym c.before.before.check-number.ensures ∙ c.enum_told.given.1
+
+count-is : (c : tie.After-enum-told3) → let a = (at-number (at_count c)).args in counted_in (span_in a.entry) (length a.p.now) ≡ Right
+count-is c = sym c.before.before.check-count.ensures ∙ c.enum-told3.given.1
+
+pub returns-in-AsNotBuilt : goal.returns-in-AsNotBuilt
+returns-in-AsNotBuilt c r i e =
+    by-unbuilt c.args.entry c.requires.known c.args.p.now (sym c.check_number-numbered.ensures ∙ c.enum_told-in-AsNotBuilt-1.given.1) r
+
+pub returns-in_default-numbered : goal.returns-in_default-numbered
+returns-in_default-numbered c r i e =
+    by-unknown c.args.entry c.requires.known c.args.p.now c.check_number-numbered.result
+    (λ q. ⊎_elim (λ h. omega arith) (λ h. omega arith) (rw q at c.in_default.keys2)) (λ q. ⊎_elim (λ h. omega arith) (λ h. omega arith) (rw q at c.in_default-numbered.keys2)) (sym c.check_number-numbered.ensures) r
+
+pub returns-in_default-check_count : goal.returns-in_default-check_count
+returns-in_default-check_count c r i e =
+    let z = at-number n in
+    by_count_lem z.args.entry z.pre.1 z.args.p.now (number_is n) (sym c.check_count.ensures ∙ c.enum_told-in_default-check_count-1.given.1) r
+
+pub check_access-access-requires : goal.check_access-access-requires
+check_access-access-requires c κs =
+    let n = at_count c in
+    let z = at-number n in
+    (z.pre.0, may-ask z.args.entry z.pre.1 z.args.p.now (number_is n) (count-is c))
+
+pub returns-in-WrongCode : goal.returns-in-WrongCode
+returns-in-WrongCode c r i e =
+    let n = at_count c.before {-?before-} in
+    let z = at-number n in
+    by-access z.args.entry z.pre.1 z.args.p.now (number_is n) (count-is c.before {-?before-}) WrongCode r (sym (c.check_access-access.ensures r i e) ∙ c.enum_told-in-WrongCode-1.given.1)
+
+pub returns-in_default-access-2 : goal.returns-in_default-access-2
+returns-in_default-access-2 c r i e =
+    let n = at_count c.before {-?before-} in
+    let z = at-number n in
+    let x = c.check_access-access.result in
+    let missing =
+    left-missing x (λ q. ⊎_elim (λ h. omega arith) (λ h. omega arith) (rw q at c.in_default-access.keys2)) (λ q. ⊎_elim (λ h. omega arith) (λ h. omega arith) (rw q at c.in_default-access-2.keys2)) in
+    by-access z.args.entry z.pre.1 z.args.p.now (number_is n) (count-is c.before {-?before-}) Missing r (sym (c.check_access-access.ensures r i e) ∙ missing)
+
+pub returns : goal.returns
+returns c r i e =
+    let n = at_count c.before {-?before-} in
+    let z = at-number n in
+    by-access z.args.entry z.pre.1 z.args.p.now (number_is n) (count-is c.before {-?before-}) Given r (sym (c.check_access-access.ensures r i e) ∙ c.enum_told-in-Given-1.given.1)
