@@ -7,7 +7,7 @@ use borrow.Author.Rules.{rules}
 use Rattle.form.proofs.name_fine.Goals as goal
 
 pub overflow_cast-n : goal.overflow_cast-n
-overflow_cast-n c = omega (arith, c.shared_slice_known-2-1.given at_name_length)
+overflow_cast-n c = omega (arith, c.type_inv.s at_name_length)
 
 pub returns-then-n-gt-NAME_ROOM : goal.returns-then-n-gt-NAME_ROOM
 returns-then-n-gt-NAME_ROOM c = name-long c.args.s.now c.if-n-gt-NAME_ROOM.true

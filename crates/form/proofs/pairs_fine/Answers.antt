@@ -12,5 +12,4 @@ pub returns-then-s-eq1 : goal.returns-then-s-eq1
 returns-then-s-eq1 c = c.pairs_seen.ensures ∙ pairs-by c.args.s.now true (eq-eqb _ 1 c.if-s-eq1.true)
 
 pub returns : goal.returns
-returns c =
-    c.all_zero.ensures ∙ pairs-none c.args.s.now at_pairs channels c.requires ∙ pairs-by c.args.s.now false (ne_eqb _ 1 c.if-s-eq1.false)
+returns c = c.all_zero.ensures ∙ pairs-none c.args.s.now at_pairs channels c.requires ∙ pairs-by c.args.s.now false (ne_eqb _ 1 c.if-s-eq1.false)

@@ -22,7 +22,7 @@ pub returns-then-above : goal.returns-then-above
 returns-then-above c =
     let l = c.loop-i in
     let a = c.args in
-    left_out a.s.now a.from channels l.i l.most (omega arith) (sym (order c.before {-?before-}) ∙ c.if-above.true) ∙ sym l.invariant.1 ∙ left-all a.s.now a.from channels
+    left_out a.s.now a.from channels l.i l.most (omega arith) (sym (order c.before) ∙ c.if-above.true) ∙ sym l.invariant.1 ∙ left-all a.s.now a.from channels
 
 pub loop-i-preserved : goal.loop-i-preserved
 loop-i-preserved c =

@@ -7,7 +7,7 @@ use borrow.Author.Rules.{rules}
 use Rattle.form.proofs.pending_fine.Goals as goal
 
 pub overflow_cast-n : goal.overflow_cast-n
-overflow_cast-n c = omega (arith, c.shared_slice_known-2-1.given at_pending_length)
+overflow_cast-n c = omega (arith, c.type_inv.s at_pending_length)
 
 pub returns-then-n-gt-PENDING_ROOM : goal.returns-then-n-gt-PENDING_ROOM
 returns-then-n-gt-PENDING_ROOM c = pending-long c.args.s.now c.requires c.if-n-gt-PENDING_ROOM.true

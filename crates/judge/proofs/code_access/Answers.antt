@@ -8,11 +8,8 @@ use Rattle.judge.proofs.Checks.{flag-sound, code-open, code-used, code-right, co
 use borrow.Author.Rules.{rules}
 use Rattle.judge.proofs.code_access.Goals as goal
 
-whole : (c : tie.Start) → length c.args.rec.now ≡ record_size
-whole c = holds-long _ c.args.rec.now c.requires.0
-
 pub is_open-requires : goal.is_open-requires
-is_open-requires c κs = flag-sound _ c.requires.sound
+is_open-requires c = flag-sound _ c.requires.sound
 
 pub returns-then-is_open : goal.returns-then-is_open
 returns-then-is_open c =
@@ -20,7 +17,9 @@ returns-then-is_open c =
     code-open a.rec.now a.p.now c.is_open.result c.is_open.ensures c.if-is_open.true
 
 pub bounds-rec-4 : goal.bounds-rec-4
-bounds-rec-4 c = omega (arith, whole c.before {-?before-})
+bounds-rec-4 c =
+    let whole : length c.args.rec.now ≡ record_size = holds-long _ c.args.rec.now c.requires.sound in
+    omega (arith, whole)
 
 pub returns-then-rec-ge3 : goal.returns-then-rec-ge3
 returns-then-rec-ge3 c =
@@ -28,7 +27,9 @@ returns-then-rec-ge3 c =
     code-used a.rec.now a.p.now c.is_open.result c.is_open.ensures c.if-is_open.false (omega arith)
 
 pub word_at-requires-2 : goal.word_at-requires-2
-word_at-requires-2 c κs = search (rules, whole c.before {-?before-})
+word_at-requires-2 c =
+    let whole : length c.args.rec.now ≡ record_size = holds-long _ c.args.rec.now c.requires.sound in
+    search (rules, whole)
 
 pub returns-then-word_at : goal.returns-then-word_at
 returns-then-word_at c =

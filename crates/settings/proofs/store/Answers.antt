@@ -12,12 +12,12 @@ use Rattle.settings.proofs.store.Goals as goal
 
 pub put_number-requires : goal.put_number-requires
 put_number-requires c =
-    let room : c.args.at + setting_width c.args.k ≤ length c.args.rec.now = rw (← setting-wide c.requires.sound_at c.args.k) (reaches (sheet_of c.args.k).part c.args.at c.args.rec.now c.requires.sound_at) in
+    let room : c.args.at + setting_width c.args.k ≤ length c.args.rec.now = rw (← setting-wide c.requires.sound_at.plan c.args.k) (reaches (sheet_of c.args.k).part c.args.at c.args.rec.now c.requires.sound_at) in
     let n : c.width_of.result ≡ setting_width c.args.k = c.width_of.ensures in
     (rw n (widths c.args.k), (omega (arith, room, n), omega (arith, c.requires.p_len, n)))
 
 pub returns : goal.returns
 returns c =
-    let room : c.args.at + setting_width c.args.k ≤ length c.args.rec.now = rw (← setting-wide c.requires.sound_at c.args.k) (reaches (sheet_of c.args.k).part c.args.at c.args.rec.now c.requires.sound_at) in
+    let room : c.args.at + setting_width c.args.k ≤ length c.args.rec.now = rw (← setting-wide c.requires.sound_at.plan c.args.k) (reaches (sheet_of c.args.k).part c.args.at c.args.rec.now c.requires.sound_at) in
     let n = c.width_of.ensures in
     rw (c.put_number.ensures, n) (turn-setting c.args.rec.now c.args.at c.args.k c.args.p.now (λ i. (c.type_inv.p i).fits) (room))
