@@ -121,9 +121,6 @@ put-none d at (x ∷ p) h = absurd (omega arith)
 
 module _ (d : List ℕ) (at : ℕ) (p : List ℕ) (h : at + length p ≤ length d) (x : List ℕ)
     (w : ((16 < length p) × (x ≡ put d (at + 8) (bytes_at 8 p 8))) ⊎ ((length p ≤ 16) × (x ≡ d))) where
-  pub gap-long : length x ≡ length d
-  gap-long = ⊎_elim (λ q. ap length q.1 ∙ length-put d (at + 8) (bytes_at 8 p 8) (omega (arith, q.0))) (λ q. ap length q.1) w
-
   pub gap-put : 8 ≤ length p → length p ≤ 24 → put (put x at (bytes_at 8 p 0)) (at + length p - 8) (bytes_at 8 p (length p - 8)) ≡ put d at p
   gap-put a b = ⊎_elim (λ q. rw q.1 (put-three-words d at p h 8 (omega (arith, q.0)) b)) (λ q. rw q.1 (put-ends d at p h 8 a q.0)) w
 
@@ -142,11 +139,6 @@ zeros-part n at = simp zeros-at
 
 module _ (d : List ℕ) (at end : ℕ) (room : end ≤ length d) (x : List ℕ)
     (w : ((16 < end - at) × (x ≡ put (put d at none) (at + 8) none)) ⊎ ((end - at ≤ 16) × (x ≡ put d at none))) where
-  pub clear-long : at + 8 ≤ end → length x ≡ length d
-  clear-long a =
-      let one : length (put d at none) ≡ length d = length-put d at none (omega arith) in
-      ⊎_elim (λ q. ap length q.1 ∙ length-put (put d at none) (at + 8) none (omega (arith, one, q.0)) ∙ one) (λ q. ap length q.1 ∙ one) w
-
   pub clear-put : at + 8 ≤ end → end ≤ at + 24 → put x (end - 8) none ≡ put d at (replicate (end - at) 0)
   clear-put a b =
       let z : List ℕ = replicate (end - at) 0 in

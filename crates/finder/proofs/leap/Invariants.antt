@@ -1,9 +1,5 @@
 -- `leap`: none of the bytes that are leapt over is AA.
-use native.Mathlib.Omega.{arith}
 use Rattle.wire.specs.Serial.{Noise}
-use Rattle.wire.proofs.Stretches.{stretch-none}
-use Rattle.finder.proofs.FinderLaws.{noise-sixteen}
-use borrow.Author.Tests.{not-false}
 use Prim.Native.Nat.{◌-◌, ◌≤◌}
 use Rattle.finder.proofs.leap.Given as goal
 

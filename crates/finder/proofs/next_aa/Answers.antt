@@ -1,8 +1,6 @@
 -- `next_aa`: the scan stops at the next AA or at the end.
 use native.Mathlib.Omega.{arith}
-use Rattle.wire.specs.Serial.{Noise}
 use Rattle.wire.proofs.Stretches.{stretch-none, stretch-one}
-use Prim.Native.Nat.{◌-◌, ◌≤◌}
 use mathlib.Core.Logic.{inl, inr}
 use Rattle.finder.proofs.next_aa.Goals as goal
 

@@ -2,7 +2,6 @@
 use native.Mathlib.Nat.{add-zero}
 use mathlib.Core.Path.{refl}
 use Rattle.finder.specs.Finder.{no_aa}
-use borrow.Author.Rules.{rules}
 use Rattle.finder.proofs.quiet_eight.Goals as goal
 
 pub returns : goal.returns

@@ -2,7 +2,6 @@
 use Rattle.words.proofs.WordLaws.{put-three-bytes}
 use native.Mathlib.Omega.{arith}
 use lib.ListN.{length-set}
-use borrow.Author.Rules.{rules}
 use Rattle.words.proofs.put_bytes.Goals as goal
 
 pub bounds-buffer-at-2 : goal.bounds-buffer-at-2

@@ -1,7 +1,6 @@
 -- `put_few`: by the number of bytes.
 use Rattle.words.proofs.WordLaws.{put-none}
 use native.Mathlib.Omega.{arith}
-use borrow.Author.Rules.{rules}
 use Rattle.words.proofs.put_few.Goals as goal
 
 pub returns-then-n-eq0 : goal.returns-then-n-eq0

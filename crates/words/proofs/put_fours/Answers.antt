@@ -2,7 +2,6 @@
 use Rattle.words.proofs.WordLaws.{put-ends, two-words}
 use native.Mathlib.Omega.{arith}
 use mathlib.Core.Path.{◌∙◌}
-use borrow.Author.Rules.{rules}
 use Rattle.words.proofs.put_fours.Goals as goal
 
 pub returns : goal.returns
