@@ -6,7 +6,7 @@ ghost use Rattle.peak.specs.Pairs.{finite, less};
 ghost use Rattle.peak.specs.Floats.{float_of, bits_of, renewed, is_raised, is_lowered};
 
 // The greatest and the smallest value of a channel.
-#[derive(Drop)]
+#[derive(Clone, Copy)]
 pub struct Peak {
     pub greatest: f32,
     pub smallest: f32,

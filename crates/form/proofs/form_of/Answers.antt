@@ -18,19 +18,19 @@ pub returns-then-s-ne-RECORD_SIZE : goal.returns-then-s-ne-RECORD_SIZE
 returns-then-s-ne-RECORD_SIZE c = short c.args.s.now c.if-s-ne-RECORD_SIZE.true
 
 pub returns-then-not-head_fine : goal.returns-then-not-head_fine
-returns-then-not-head_fine c = bad c.args.s.now c.if-s-ne-RECORD_SIZE.false 0 (sym c.head_fine.ensures ∙ not-true _ c.if-not-head_fine.true)
+returns-then-not-head_fine c = bad c.args.s.now c.if-s-ne-RECORD_SIZE.false 0 (sym c.head_fine.ensures ∙ c.if-not-head_fine.true)
 
 pub returns-then-not-radio_fine : goal.returns-then-not-radio_fine
-returns-then-not-radio_fine c = bad c.args.s.now c.if-s-ne-RECORD_SIZE.false 1 (sym c.radio_fine.ensures ∙ not-true _ c.if-not-radio_fine.true)
+returns-then-not-radio_fine c = bad c.args.s.now c.if-s-ne-RECORD_SIZE.false 1 (sym c.radio_fine.ensures ∙ c.if-not-radio_fine.true)
 
 pub returns-then-not-inputs_fine : goal.returns-then-not-inputs_fine
-returns-then-not-inputs_fine c = bad c.args.s.now c.if-s-ne-RECORD_SIZE.false 2 (sym c.inputs_fine.ensures ∙ not-true _ c.if-not-inputs_fine.true)
+returns-then-not-inputs_fine c = bad c.args.s.now c.if-s-ne-RECORD_SIZE.false 2 (sym c.inputs_fine.ensures ∙ c.if-not-inputs_fine.true)
 
 pub returns-then-not-switches_fine : goal.returns-then-not-switches_fine
-returns-then-not-switches_fine c = bad c.args.s.now c.if-s-ne-RECORD_SIZE.false 3 (sym c.switches_fine.ensures ∙ not-true _ c.if-not-switches_fine.true)
+returns-then-not-switches_fine c = bad c.args.s.now c.if-s-ne-RECORD_SIZE.false 3 (sym c.switches_fine.ensures ∙ c.if-not-switches_fine.true)
 
 pub returns-then-not-name_fine : goal.returns-then-not-name_fine
-returns-then-not-name_fine c = bad c.args.s.now c.if-s-ne-RECORD_SIZE.false 4 (sym c.name_fine.ensures ∙ not-true _ c.if-not-name_fine.true)
+returns-then-not-name_fine c = bad c.args.s.now c.if-s-ne-RECORD_SIZE.false 4 (sym c.name_fine.ensures ∙ c.if-not-name_fine.true)
 
 pub all_zero-requires : goal.all_zero-requires
 all_zero-requires c =
@@ -48,7 +48,7 @@ pub returns-then-not-model_fine : goal.returns-then-not-model_fine
 returns-then-not-model_fine c =
     let s : List ℕ = c.args.s.now in
     let long : length s ≡ record_size = c.if-s-ne-RECORD_SIZE.false in
-    bad (s) (long) 5 (and-true _ ∙ sym c.model_fine.ensures ∙ not-true _ c.if-not-model_fine.true)
+    bad (s) (long) 5 (and-true _ ∙ sym c.model_fine.ensures ∙ c.if-not-model_fine.true)
 
 pub all_zero-requires-2 : goal.all_zero-requires-2
 all_zero-requires-2 c =
@@ -66,7 +66,7 @@ pub returns-then-not-pending_fine : goal.returns-then-not-pending_fine
 returns-then-not-pending_fine c =
     let s : List ℕ = c.args.s.now in
     let long : length s ≡ record_size = c.if-s-ne-RECORD_SIZE.false in
-    bad (s) (long) 6 (sym c.pending_fine.ensures ∙ not-true _ c.if-not-pending_fine.true)
+    bad (s) (long) 6 (sym c.pending_fine.ensures ∙ c.if-not-pending_fine.true)
 
 pub pairs_fine-requires : goal.pairs_fine-requires
 pairs_fine-requires c =
@@ -78,7 +78,7 @@ pub returns-then-not-pairs_fine : goal.returns-then-not-pairs_fine
 returns-then-not-pairs_fine c =
     let s : List ℕ = c.args.s.now in
     let long : length s ≡ record_size = c.if-s-ne-RECORD_SIZE.false in
-    bad (s) (long) 7 (sym c.pairs_fine.ensures ∙ not-true _ c.if-not-pairs_fine.true)
+    bad (s) (long) 7 (sym c.pairs_fine.ensures ∙ c.if-not-pairs_fine.true)
 
 pub returns : goal.returns
 returns c =
@@ -89,10 +89,10 @@ returns c =
     let pending : all_fine (pending_fields (s)) ≡ true = ⊎_elim (λ w. sym w.1.ensures ∙ not-false _ w.2.left)
     (λ w. pending-none (s) (omega (arith, long)) (sym c.all_zero-2.ensures ∙ not-false _ w.left)) c.if-not-all_zero-2.branch in
     good (s) (long)
-    (sym c.head_fine.ensures ∙ not-false _ c.if-not-head_fine.false)
-    (sym c.radio_fine.ensures ∙ not-false _ c.if-not-radio_fine.false)
-    (sym c.inputs_fine.ensures ∙ not-false _ c.if-not-inputs_fine.false)
-    (sym c.switches_fine.ensures ∙ not-false _ c.if-not-switches_fine.false)
-    (sym c.name_fine.ensures ∙ not-false _ c.if-not-name_fine.false)
+    (sym c.head_fine.ensures ∙ c.if-not-head_fine.false)
+    (sym c.radio_fine.ensures ∙ c.if-not-radio_fine.false)
+    (sym c.inputs_fine.ensures ∙ c.if-not-inputs_fine.false)
+    (sym c.switches_fine.ensures ∙ c.if-not-switches_fine.false)
+    (sym c.name_fine.ensures ∙ c.if-not-name_fine.false)
     (model) (pending)
-    (sym c.pairs_fine.ensures ∙ not-false _ c.if-not-pairs_fine.false)
+    (sym c.pairs_fine.ensures ∙ c.if-not-pairs_fine.false)

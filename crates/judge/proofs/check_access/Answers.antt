@@ -62,7 +62,7 @@ code_access-requires c =
     let need : Need = need_in entry in
     let up : entry / 8 ≡ need_bits need / 8 = upper entry c.requires.value.0 c.requires.value.1 in
     let code : 64 ≤ entry → need ≡ Code = not_code entry need up in
-    (c.requires.sound, rw (code c.if-entry-lt-CODE.false) at c.requires.value.2)
+    record { sound = c.requires.sound; in_bounds = rw (code c.if-entry-lt-CODE.false) at c.requires.value.2 }
 
 pub returns : goal.returns
 returns c r i e =

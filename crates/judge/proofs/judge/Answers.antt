@@ -12,13 +12,6 @@ use Rattle.judge.proofs.Checks.{may-ask, by-unbuilt, by-unknown, by_count_lem, b
 use borrow.Author.Rules.{rules}
 use Rattle.judge.proofs.judge.Goals as goal
 
--- the start, from the place behind each check that passed
-abbrev at-number : tie.After-enum-told → tie.Start
-at-number c = c.before.before.before.before.before
-
-abbrev at_count : tie.After-enum-told3 → tie.After-enum-told
-at_count c = c.before.before.before
-
 pub returns-in-AsNotBuilt : goal.returns-in-AsNotBuilt
 returns-in-AsNotBuilt c r i e = by-unbuilt c.args.entry c.requires.known c.args.p.now (sym c.check_number-numbered.ensures ∙ c.in-AsNotBuilt.is) r
 
@@ -29,37 +22,32 @@ returns-in_default-numbered c r i e =
 
 pub returns-in_default-check_count : goal.returns-in_default-check_count
 returns-in_default-check_count c r i e =
-    let number_is : numbered_by (unpacked (at-number c).args.entry) ≡ AsCommand = sym c.check_number-numbered.ensures ∙ c.in-AsCommand.is in
-    let z = at-number n in
-    by_count_lem z.args.entry z.pre.1 z.args.p.now (number_is) (sym c.check_count.ensures ∙ c.in_default-check_count.is) r
+    let number_is : numbered_by (unpacked c.args.entry) ≡ AsCommand = sym c.check_number-numbered.ensures ∙ c.in-AsCommand.is in
+    by_count_lem c.args.entry c.requires.known c.args.p.now (number_is) (sym c.check_count.ensures ∙ c.in_default-check_count.is) r
 
 pub check_access-access-requires : goal.check_access-access-requires
 check_access-access-requires c =
-    let count-is : let a = (at-number (at_count c)).args in counted_in (span_in a.entry) (length a.p.now) ≡ Right = sym c.check_count.ensures ∙ c.in-Right.is in
-    let n = at_count c in
-    let z = at-number n in
-    (z.pre.0, may-ask z.args.entry z.pre.1 z.args.p.now (number_is n) (count-is))
+    let number_is : numbered_by (unpacked c.args.entry) ≡ AsCommand = sym c.check_number-numbered.ensures ∙ c.in-AsCommand.is in
+    let count-is : let a = c.args in counted_in (span_in a.entry) (length a.p.now) ≡ Right = sym c.check_count.ensures ∙ c.in-Right.is in
+    record { sound = c.requires.sound; value = may-ask c.args.entry c.requires.known c.args.p.now (number_is) (count-is) }
 
 pub returns-in-WrongCode : goal.returns-in-WrongCode
 returns-in-WrongCode c r i e =
-    let count-is : let a = (at-number (at_count c)).args in counted_in (span_in a.entry) (length a.p.now) ≡ Right = sym c.check_count.ensures ∙ c.in-Right.is in
-    let n = at_count seen.before in
-    let z = at-number n in
-    by-access z.args.entry z.pre.1 z.args.p.now (number_is n) (count-is) WrongCode r (sym (c.check_access-access.ensures r i e) ∙ c.in-WrongCode.is)
+    let number_is : numbered_by (unpacked c.args.entry) ≡ AsCommand = sym c.check_number-numbered.ensures ∙ c.in-AsCommand.is in
+    let count-is : let a = c.args in counted_in (span_in a.entry) (length a.p.now) ≡ Right = sym c.check_count.ensures ∙ c.in-Right.is in
+    by-access c.args.entry c.requires.known c.args.p.now (number_is) (count-is) WrongCode r (sym (c.check_access-access.ensures r i e) ∙ c.in-WrongCode.is)
 
 pub returns-in_default-access-2 : goal.returns-in_default-access-2
 returns-in_default-access-2 c r i e =
-    let count-is : let a = (at-number (at_count c)).args in counted_in (span_in a.entry) (length a.p.now) ≡ Right = sym c.check_count.ensures ∙ c.in-Right.is in
-    let n = at_count seen.before in
-    let z = at-number n in
+    let number_is : numbered_by (unpacked c.args.entry) ≡ AsCommand = sym c.check_number-numbered.ensures ∙ c.in-AsCommand.is in
+    let count-is : let a = c.args in counted_in (span_in a.entry) (length a.p.now) ≡ Right = sym c.check_count.ensures ∙ c.in-Right.is in
     let x = c.check_access-access.result in
     let missing =
     left-missing x (λ q. ⊎_elim (λ h. omega arith) (λ h. omega arith) (rw q at c.in_default-access.keys2)) (λ q. ⊎_elim (λ h. omega arith) (λ h. omega arith) (rw q at c.in_default-access-2.keys2)) in
-    by-access z.args.entry z.pre.1 z.args.p.now (number_is n) (count-is) Missing r (sym (c.check_access-access.ensures r i e) ∙ missing)
+    by-access c.args.entry c.requires.known c.args.p.now (number_is) (count-is) Missing r (sym (c.check_access-access.ensures r i e) ∙ missing)
 
 pub returns : goal.returns
 returns c r i e =
-    let count-is : let a = (at-number (at_count c)).args in counted_in (span_in a.entry) (length a.p.now) ≡ Right = sym c.check_count.ensures ∙ c.in-Right.is in
-    let n = at_count seen.before in
-    let z = at-number n in
-    by-access z.args.entry z.pre.1 z.args.p.now (number_is n) (count-is) Given r (sym (c.check_access-access.ensures r i e) ∙ c.in-Given.is)
+    let number_is : numbered_by (unpacked c.args.entry) ≡ AsCommand = sym c.check_number-numbered.ensures ∙ c.in-AsCommand.is in
+    let count-is : let a = c.args in counted_in (span_in a.entry) (length a.p.now) ≡ Right = sym c.check_count.ensures ∙ c.in-Right.is in
+    by-access c.args.entry c.requires.known c.args.p.now (number_is) (count-is) Given r (sym (c.check_access-access.ensures r i e) ∙ c.in-Given.is)

@@ -14,7 +14,7 @@ pub put_number-requires : goal.put_number-requires
 put_number-requires c =
     let room : c.args.at + setting_width c.args.k ≤ length c.args.rec.now = rw (← setting-wide c.requires.sound_at.plan c.args.k) (reaches (sheet_of c.args.k).part c.args.at c.args.rec.now c.requires.sound_at) in
     let n : c.width_of.result ≡ setting_width c.args.k = c.width_of.ensures in
-    (rw n (widths c.args.k), (omega (arith, room, n), omega (arith, c.requires.p_len, n)))
+    record { narrow = rw n (widths c.args.k); n_in_bounds = (omega (arith, room, n), omega (arith, c.requires.p_len, n)) }
 
 pub returns : goal.returns
 returns c =

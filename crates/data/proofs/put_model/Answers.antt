@@ -1,0 +1,24 @@
+-- `put_model`: the model is put, and a 00 behind it where it is shorter than its room.
+use Rattle.data.proofs.Data.{answers-cut, answers-whole}
+use borrow.Author.Rules.{rules}
+use Rattle.data.proofs.put_model.Goals as goal
+
+-- ?? part-put-few-start : tie.Need-slice-bounds-put-few-start
+-- ?? part-put-few-start c = search rules
+
+-- ?? part-put-few-end : tie.Need-slice-bounds-put-few-end
+-- ?? part-put-few-end c = search rules
+
+pub returns-then-end-most : goal.returns-then-end-most
+returns-then-end-most c =
+    let a = c.args in
+    let e = c.first_zero-end in
+    let i = c.put_few-behind in
+    answers-cut a.rec.now a.from c.requires.0 e.result e.ensures.0 a.out.now a.at c.requires.1 i.new.0 i.ensures.1 c.if-end-most.true i.result i.ensures.0
+
+pub returns : goal.returns
+returns c =
+    let a = c.args in
+    let e = c.first_zero-end in
+    let i = c.put_few-behind in
+    answers-whole a.rec.now a.from c.requires.0 e.result e.ensures.0 a.out.now a.at c.requires.1 i.new.0 i.ensures.1 c.if-end-most.false e.ensures.1

@@ -1,0 +1,18 @@
+-- `put_name`: as many bytes of the name as its length says are put.
+use lib.ListN.{get_or}
+use Rattle.record.specs.Layout.{at_name_length}
+use Rattle.data.proofs.Data.{answers-name}
+use borrow.Author.Rules.{rules}
+use Rattle.data.proofs.put_name.Goals as goal
+
+-- ?? part-put-few-start : tie.Need-slice-bounds-put-few-start
+-- ?? part-put-few-start c = search rules
+
+-- ?? part-put-few-end : tie.Need-slice-bounds-put-few-end
+-- ?? part-put-few-end c = search rules
+
+pub returns : goal.returns
+returns c =
+    let a = c.args in
+    let i = c.put_few in
+    answers-name a.out.now a.at c.requires.name_room_in_bounds.1 a.rec.now (get_or a.rec.now at_name_length 0) i.new.0 c.requires.name_room_in_bounds.0 c.requires.at_name_length_bound i.ensures.1
