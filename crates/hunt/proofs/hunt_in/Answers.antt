@@ -18,17 +18,7 @@ use Rattle.wire.specs.Frames.{Heads, look, Take}
 use Rattle.wire.specs.Serial.{heads_of}
 use Rattle.wire.proofs.SerialLaws.{huntable}
 use Rattle.finder.specs.declared.Seen.TheVariants.{Frame, Torn}
-use Rattle.hunt.proofs.hunt_in.Statement.{statement}
-use Rattle.hunt.proofs.hunt_in.Tie as tie
-
-abbrev invariant-hunt : tie.invariant-hunt
-invariant-hunt line table rec₀ s until out₀ start at₀ wrote₀ framed₀ rec out at wrote framed = (framed ≤ at) × Going (heads_of line) (record_of rec₀) s out₀ start at (at - framed) wrote rec out
-
-abbrev decreases-hunt : tie.decreases-hunt
-decreases-hunt line table rec₀ s until out₀ start at₀ wrote₀ framed₀ rec out at wrote framed = length s - at
-
-hunt-holds : tie.Need-hunt-init invariant-hunt decreases-hunt
-hunt-holds c = let z = c.before.before.before in (omega arith, going_start (heads_of z.args.line) z.args.s.now z.args.out.now z.args.start z.args.rec.now z.requires.1.0)
+use Rattle.hunt.proofs.hunt_in.Goals as goal
 
 -- where the finder stopped: the board so far, and what stands there
 module _ (f : tie.After-find invariant-hunt decreases-hunt) where
@@ -100,39 +90,6 @@ left w =
     subst (Left l) (sym q.4) (few-here f, record { going = going-here f; stops = shown-nothing (heads f) (stream f) l.hunt.at z.until f.find.result f.find.ensures q.3.given.1 }))
     w.hunt-test.branch
 
-find-requires : tie.Need-find-requires invariant-hunt decreases-hunt
-find-requires c κs = (omega arith, omega arith, omega arith)
-
-enum-known-seen : tie.Need-enum-known-seen invariant-hunt decreases-hunt
-enum-known-seen c = search rules
-
-add-carry : tie.Need-overflow-add-carry invariant-hunt decreases-hunt
-add-carry c = omega (arith, room-here c.before.before.before.before _ c.before.before.seen.given.1)
-
-add-carry-2 : tie.Need-overflow-add-carry-2 invariant-hunt decreases-hunt
-add-carry-2 c = omega (arith, room-here c.before.before.before.before _ c.before.before.seen.given.1)
-
-sub-carry : tie.Need-overflow-sub-carry invariant-hunt decreases-hunt
-sub-carry c = omega arith
-
-part-carry-start : tie.Need-slice-bounds-carry-start invariant-hunt decreases-hunt
-part-carry-start c = omega arith
-
-part-carry-end : tie.Need-slice-bounds-carry-end invariant-hunt decreases-hunt
-part-carry-end c = omega (arith, room-here c.before.before.before.before _ c.before.before.seen.given.1)
-
-carry-requires : tie.Need-carry-requires invariant-hunt decreases-hunt
-carry-requires c κs =
-    let f = c.before.before.before.before.before.before in
-    let z = f.before.before.before.before.before.before in
-    let l = f.before.before.hunt in
-    let e = frame_here f _ c.before.before.before.before.seen.given.1 in
-    let on = going-here f in
-    let sound = going-sound (heads f) (stream f) z.args.out.now z.args.start (record_of z.args.rec.now) _ _ l.wrote l.rec l.out on in
-    let whole = going-frame (heads f) (stream f) z.args.out.now z.args.start (record_of z.args.rec.now) _ _ l.wrote l.rec l.out on z.requires.1.1.1 _ e (huntable z.args.line) (λ i. omega (arith, f.before.before.before.before.shared-slice-known.given i)) in
-    let room = going-room (heads f) (stream f) z.args.out.now z.args.start (record_of z.args.rec.now) _ _ l.wrote l.rec l.out on z.requires.1.1.1 _ e in
-    (z.requires.0, (sound, (whole, room)))
-
 -- behind the command that was carried out
 module _ (c : tie.After-slice-known4 invariant-hunt decreases-hunt) where
   abbrev found : tie.After-find invariant-hunt decreases-hunt
@@ -147,84 +104,75 @@ module _ (c : tie.After-slice-known4 invariant-hunt decreases-hunt) where
   short : here found + 4 + count ≤ stream_most
   short = omega (arith, room-here found count told, found.before.before.before.before.before.before.pre.1.1.0.1)
 
-add_at : tie.Need-overflow-add-at invariant-hunt decreases-hunt
-add_at c = omega (arith, short c)
+pub hunt-init : goal.hunt-init
+hunt-init c = (omega arith, going_start (heads_of c.args.line) c.args.s.now c.args.out.now c.args.start c.args.rec.now c.requires.sound)
 
-add-at-2 : tie.Need-overflow-add-at-2 invariant-hunt decreases-hunt
-add-at-2 c = omega (arith, short c)
+pub find-found-requires : goal.find-found-requires
+find-found-requires c = (omega arith, omega arith, omega arith)
 
-add-framed : tie.Need-overflow-add-framed invariant-hunt decreases-hunt
-add-framed c = omega (arith, short c, few-here (found c))
+pub overflow_add-at : goal.overflow_add-at
+overflow_add-at c = omega (arith, room-here c.before.before.before.before _ c.in-Frame.is)
 
-add-framed-2 : tie.Need-overflow-add-framed-2 invariant-hunt decreases-hunt
-add-framed-2 c = omega (arith, short c, few-here (found c))
+pub overflow_add-at-in-Frame : goal.overflow_add-at-in-Frame
+overflow_add-at-in-Frame c = omega (arith, room-here c.before.before.before.before _ c.in-Frame.is)
 
-hunt-less : tie.Need-hunt-smaller invariant-hunt decreases-hunt
-hunt-less c = omega (arith, room-here (found c) (count c) (told c), (found c).find.ensures.passed.after)
+-- ?? part-carry-start : tie.Need-slice-bounds-carry-start invariant-hunt decreases-hunt
+-- ?? part-carry-start c = omega arith
 
-hunt-again : tie.Need-hunt-preserved invariant-hunt decreases-hunt
-hunt-again c =
+-- ?? part-carry-end : tie.Need-slice-bounds-carry-end invariant-hunt decreases-hunt
+-- ?? part-carry-end c = omega (arith, room-here c.before.before.before.before _ c.before.before.seen.given.1)
+
+pub carry-wrote-requires : goal.carry-wrote-requires
+carry-wrote-requires c =
+    let l = c.hunt in
+    let e = frame_here f _ c.in-Frame.is in
+    let on = going-here f in
+    let sound = going-sound (heads f) (stream f) c.args.out.now c.args.start (record_of c.args.rec.now) _ _ l.wrote l.rec l.out on in
+    let whole = going-frame (heads f) (stream f) c.args.out.now c.args.start (record_of c.args.rec.now) _ _ l.wrote l.rec l.out on c.requires.s_in_bounds _ e (huntable c.args.line) (λ i. omega (arith, c.type_inv.s i)) in
+    let room = going-room (heads f) (stream f) c.args.out.now c.args.start (record_of c.args.rec.now) _ _ l.wrote l.rec l.out on c.requires.s_in_bounds _ e in
+    record { table_value = c.requires.table_value; sound = sound; in_bounds = whole; frame_most_in_bounds = room }
+
+pub overflow_add-at-in-Frame-2 : goal.overflow_add-at-in-Frame-2
+overflow_add-at-in-Frame-2 c = omega (arith, short c)
+
+pub overflow_add-at-in-Frame-3 : goal.overflow_add-at-in-Frame-3
+overflow_add-at-in-Frame-3 c = omega (arith, short c)
+
+pub overflow_add-framed : goal.overflow_add-framed
+overflow_add-framed c = omega (arith, short c, few-here (found c))
+
+pub overflow_add-framed-in-Frame : goal.overflow_add-framed-in-Frame
+overflow_add-framed-in-Frame c = omega (arith, short c, few-here (found c))
+
+pub hunt-smaller-in-Frame : goal.hunt-smaller-in-Frame
+hunt-smaller-in-Frame c = omega (arith, room-here (found c) (count c) (told c), (found c).find.ensures.passed.after)
+
+pub hunt-preserved-in-Frame : goal.hunt-preserved-in-Frame
+hunt-preserved-in-Frame c =
     let f = found c in
     let z = f.before.before.before.before.before.before in
     let l = f.before.before.hunt in (
       omega (arith, few-here f),
-      framed-carried (heads f) (stream f) z.args.out.now z.args.start (record_of z.args.rec.now) (here f) (framed f) l.wrote l.rec l.out (few-here f) (going-here f) z.pre.1.1.1 (count c) (frame_here f (count c) (told c)) _ _ _ c.before.before.before.before.carry.ensures,
+      framed-carried (heads f) (stream f) z.args.out.now z.args.start (record_of z.args.rec.now) (here f) (framed f) l.wrote l.rec l.out (few-here f) (going-here f) z.pre.1.1.1 (count c) (frame_here f (count c) (told c)) _ _ _ c.carry-wrote.ensures,
     )
 
-enum_told : tie.Need-enum-told invariant-hunt decreases-hunt
-enum_told c = search rules
+pub overflow_add-at-in-Torn : goal.overflow_add-at-in-Torn
+overflow_add-at-in-Torn c = omega (arith, c.find-found.ensures.passed.inside)
 
-add-at-3 : tie.Need-overflow-add-at-3 invariant-hunt decreases-hunt
-add-at-3 c = omega (arith, c.before.before.find.ensures.passed.inside)
+pub hunt-smaller : goal.hunt-smaller
+hunt-smaller c = omega (arith, c.find-found.ensures.passed.after, (torn-here c.before.before c.in-Torn.is).sofar.along.within)
 
-hunt-less-2 : tie.Need-hunt-smaller-2 invariant-hunt decreases-hunt
-hunt-less-2 c = omega (arith, c.before.before.find.ensures.passed.after, (torn-here c.before.before c.enum_told.given.1).sofar.along.within)
+pub hunt-preserved : goal.hunt-preserved
+hunt-preserved c = (omega (arith, few-here c.before.before), torn-here c.before.before c.in-Torn.is)
 
-hunt-again-2 : tie.Need-hunt-preserved-2 invariant-hunt decreases-hunt
-hunt-again-2 c = (omega (arith, few-here c.before.before), torn-here c.before.before c.enum_told.given.1)
+pub overflow_sub-result : goal.overflow_sub-result
+overflow_sub-result c = (left c.before).0
 
-enum-told-2 : tie.Need-enum-told-2 invariant-hunt decreases-hunt
-enum-told-2 c = search rules
+pub shape_of-rec : goal.shape_of-rec
+shape_of-rec c = hunt-kept c.before.before
 
-sub-t25 : tie.Need-overflow-sub-t25 invariant-hunt decreases-hunt
-sub-t25 c = (left c.before).0
+pub shape_of-out : goal.shape_of-out
+shape_of-out c = hunt-long c.before.before
 
-same_length : tie.Need-same-length invariant-hunt decreases-hunt
-same_length c = hunt-kept c.before.before
-
-same-length-2 : tie.Need-same-length-2 invariant-hunt decreases-hunt
-same-length-2 c = hunt-long c.before.before
-
-returns : tie.Need-returns invariant-hunt decreases-hunt
+pub returns : goal.returns
 returns c = (left c.before).1
-
-pub hunt-in-spec : {M : Type 1} → statement M
-hunt-in-spec =
-    tie.close
-    (tie.spec
-    invariant-hunt
-    decreases-hunt
-    hunt-holds
-    find-requires
-    enum-known-seen
-    add-carry
-    add-carry-2
-    sub-carry
-    part-carry-start
-    part-carry-end
-    carry-requires
-    add_at
-    add-at-2
-    add-framed
-    add-framed-2
-    hunt-less
-    hunt-again
-    enum_told
-    add-at-3
-    hunt-less-2
-    hunt-again-2
-    enum-told-2
-    sub-t25
-    same_length
-    same-length-2
-    returns)
