@@ -18,7 +18,7 @@ returns-in-AsNotBuilt c r i e = by-unbuilt c.args.entry c.requires.known c.args.
 pub returns-in_default-numbered : goal.returns-in_default-numbered
 returns-in_default-numbered c r i e =
     by-unknown c.args.entry c.requires.known c.args.p.now c.check_number-numbered.result
-    (λ q. ⊎_elim (λ h. omega arith) (λ h. omega arith) (rw q at c.in_default.keys2)) (λ q. ⊎_elim (λ h. omega arith) (λ h. omega arith) (rw q at c.in_default-numbered.keys2)) (sym c.check_number-numbered.ensures) r
+    c.in_default.not-AsCommand c.in_default-numbered.not-AsNotBuilt (sym c.check_number-numbered.ensures) r
 
 pub returns-in_default-check_count : goal.returns-in_default-check_count
 returns-in_default-check_count c r i e =
@@ -43,7 +43,7 @@ returns-in_default-access-2 c r i e =
     let count-is : let a = c.args in counted_in (span_in a.entry) (length a.p.now) ≡ Right = sym c.check_count.ensures ∙ c.in-Right.is in
     let x = c.check_access-access.result in
     let missing =
-    left-missing x (λ q. ⊎_elim (λ h. omega arith) (λ h. omega arith) (rw q at c.in_default-access.keys2)) (λ q. ⊎_elim (λ h. omega arith) (λ h. omega arith) (rw q at c.in_default-access-2.keys2)) in
+    left-missing x c.in_default-access.not-Given c.in_default-access-2.not-WrongCode in
     by-access c.args.entry c.requires.known c.args.p.now (number_is) (count-is) Missing r (sym (c.check_access-access.ensures r i e) ∙ missing)
 
 pub returns : goal.returns
