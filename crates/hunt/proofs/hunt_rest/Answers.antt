@@ -12,16 +12,11 @@ use Rattle.hunt.proofs.hunt_rest.Goals as goal
 pub hunt_in-p-requires : goal.hunt_in-p-requires
 hunt_in-p-requires c = record { table_value = c.requires.table_value; sound = c.requires.sound; until_in_bounds = (omega arith, c.requires.s_len_bound); s_in_bounds = c.requires.s_in_bounds }
 
--- ?? part-set-pending-start : tie.Need-slice-bounds-set-pending-start
--- ?? part-set-pending-start c = search rules
-
--- ?? part-set-pending-end : tie.Need-slice-bounds-set-pending-end
--- ?? part-set-pending-end c = search rules
-
 pub set_pending-requires : goal.set_pending-requires
 set_pending-requires c =
     let z = c.args in
-    roomed _ _ (rests-kept (heads_of z.line) z.rec.now z.s.now z.out.now z.start c.hunt_in-p.result c.hunt_in-p.new.rec c.hunt_in-p.new.out c.hunt_in-p.ensures, rests-short (heads_of z.line) z.rec.now z.s.now z.out.now z.start c.hunt_in-p.result c.hunt_in-p.new.rec c.hunt_in-p.new.out c.hunt_in-p.ensures (huntable z.line))
+    let q = roomed _ _ (rests-kept (heads_of z.line) z.rec.now z.s.now z.out.now z.start c.hunt_in-p.result c.hunt_in-p.new.rec c.hunt_in-p.new.out c.hunt_in-p.ensures, rests-short (heads_of z.line) z.rec.now z.s.now z.out.now z.start c.hunt_in-p.result c.hunt_in-p.new.rec c.hunt_in-p.new.out c.hunt_in-p.ensures (huntable z.line)) in
+    record { sound_pending = q.0; p_len_bound = q.1.0; le_room = q.1.1 }
 
 pub returns : goal.returns
 returns c =

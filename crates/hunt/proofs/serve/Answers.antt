@@ -21,11 +21,11 @@ hunt_rest-p-requires c = record { table_value = c.requires.table_value; sound = 
 
 pub returns-then-held-eq0 : goal.returns-then-held-eq0
 returns-then-held-eq0 c =
-    let none : (record_of c.args.rec.now).pending ≡ [] = none-there _ (sym (held-is c.args.rec.now c.requires.sound) ∙ c.if-held-eq0.taken) in
+    let none : (record_of c.args.rec.now).pending ≡ [] = none-there _ (sym (held-is c.args.rec.now c.requires.sound) ∙ c.if-held-eq0.true) in
     let z = c.args in
     let r = record_of z.rec.now in
     let y = c.hunt_rest-p.ensures in
     serves-board r z.input.now z.out.now _ _ _ (serves-input serial r r.pending z.input.now z.out.now (none) c.hunt_rest-p.result y.mid _ _ y.hunts y.turns)
 
 pub serve_held-requires : goal.serve_held-requires
-serve_held-requires c = (c.requires.table_value, (c.requires.sound, (held-is c.args.rec.now c.requires.sound, c.requires.1.1)))
+serve_held-requires c = record { table_value = c.requires.table_value; sound = c.requires.sound; held_value = held-is c.args.rec.now c.requires.sound; input_len_bound = c.requires.input_len_bound; input_in_bounds = c.requires.input_in_bounds }

@@ -78,15 +78,22 @@ slice_bounds-set_pending-count c =
     let held-is : held ≡ length waiting = c.requires.held_value in
     let joins : Joins waiting input total head = subst (λ (p : List ℕ). Joins p input total head) (pending-part rec₀ sound held held-is) c.join-total.ensures in
     let long : length (take total head) ≡ total = stream-long waiting input head held total held-is joins in
-    let at : ℕ = c.hunt_in-first.result.at in
-    let within : at ≤ total = omega (arith, long, c.hunt_in-first.ensures.going.sofar.along.within) in
-    within
+    omega (arith, long, c.hunt_in-first.ensures.going.sofar.along.within)
 
--- ?? part-set-pending-start : tie.Need-slice-bounds-set-pending-start
--- ?? part-set-pending-start c = within c.before.before.before.before.before.before.before
-
--- ?? part-set-pending-end : tie.Need-slice-bounds-set-pending-end
--- ?? part-set-pending-end c = let j = c.before.before.before.before.before.before.before.before.before.before.before.before in omega (arith, sum j, few j, j.join.auto)
+pub slice_bounds-set_pending-end : goal.slice_bounds-set_pending-end
+slice_bounds-set_pending-end c =
+    let rec₀ : List ℕ = c.args.rec.now in
+    let input : List ℕ = c.args.input.now in
+    let held : ℕ = c.args.held in
+    let head : List ℕ = c.join-total.new.head in
+    let total : ℕ = c.join-total.result in
+    let sound : Sound rec₀ = c.requires.sound in
+    let waiting : List ℕ = (record_of rec₀).pending in
+    let held-is : held ≡ length waiting = c.requires.held_value in
+    let joins : Joins waiting input total head = subst (λ (p : List ℕ). Joins p input total head) (pending-part rec₀ sound held held-is) c.join-total.ensures in
+    let few : held ≤ wait_most = number-few rec₀ sound held held-is in
+    let sum : total ≡ held + (length input - (length input - frame_most)) = total-is waiting input head held total held-is joins in
+    omega (arith, sum, few, c.join-total.auto)
 
 pub set_pending-requires : goal.set_pending-requires
 set_pending-requires c =
@@ -100,19 +107,12 @@ set_pending-requires c =
     let waiting : List ℕ = (record_of rec₀).pending in
     let held-is : held ≡ length waiting = c.requires.held_value in
     let joins : Joins waiting input total head = subst (λ (p : List ℕ). Joins p input total head) (pending-part rec₀ sound held held-is) c.join-total.ensures in
-    let at : ℕ = c.hunt_in-first.result.at in
-    let rec₁ : List ℕ = c.hunt_in-first.new.rec in
-    let out₁ : List ℕ = c.hunt_in-first.new.out in
-    let waits-short : at < held → Sound rec₁ × (length (take (total - at) (drop at (head))) ≤ pending_room) = λ a. (
-      first-kept (waiting) (input) (head) (held) (total) (held-is) (joins) serial (record_of (rec₀)) (out₀) c.hunt_in-first.result rec₁ out₁ c.hunt_in-first.ensures,
-      short-first (waiting) (input) (head) (held) (total) (held-is) (joins) serial (record_of (rec₀)) (out₀) c.hunt_in-first.result rec₁ out₁ c.hunt_in-first.ensures serial-huntable a,
-    )
-    module _ (past : held ≤ at) where
-      starts : at - held ≤ length (input)
-      starts = from-inside (waiting) (input) (head) (held) (total) (held-is) (joins) serial (record_of (rec₀)) (out₀) c.hunt_in-first.result rec₁ out₁ c.hunt_in-first.ensures past c.requires.input_in_bounds
-      fits : c.hunt_in-first.result.wrote + room_for (length (take (length (input) - (at - held)) (drop (at - held) (input)))) ≤ length out₁
-      fits = rest-fits (waiting) (input) (head) (held) (total) (held-is) (joins) serial (record_of (rec₀)) (out₀) c.hunt_in-first.result rec₁ out₁ c.hunt_in-first.ensures past c.requires.input_in_bounds in
-    roomed _ _ (waits-short c.if-at-held.true)
+    let f = c.hunt_in-first in
+    let q = roomed _ _ (
+      first-kept waiting input head held total held-is joins serial (record_of rec₀) out₀ f.result f.new.rec f.new.out f.ensures,
+      short-first waiting input head held total held-is joins serial (record_of rec₀) out₀ f.result f.new.rec f.new.out f.ensures serial-huntable c.if-at-held.true,
+    ) in
+    record { sound_pending = q.0; p_len_bound = q.1.0; le_room = q.1.1 }
 
 pub returns-then-at-held : goal.returns-then-at-held
 returns-then-at-held c =
@@ -126,25 +126,47 @@ returns-then-at-held c =
     let waiting : List ℕ = (record_of rec₀).pending in
     let held-is : held ≡ length waiting = c.requires.held_value in
     let joins : Joins waiting input total head = subst (λ (p : List ℕ). Joins p input total head) (pending-part rec₀ sound held held-is) c.join-total.ensures in
-    let rec₁ : List ℕ = c.hunt_in-first.new.rec in
-    let out₁ : List ℕ = c.hunt_in-first.new.out in
-    serves-board (record_of (rec₀)) (input) (out₀) _ _ _ (serves-first (waiting) (input) (head) (held) (total) (held-is) (joins) serial (record_of (rec₀)) (out₀) f.hunt-in.result (rec₁) (out₁) f.hunt-in.ensures serial-huntable c.if-at-held.true _ (here-pending at_pending_length pending_room _ _ _ refl refl c.set_pending.ensures))
+    let f = c.hunt_in-first in
+    serves-board (record_of rec₀) input out₀ _ _ _
+    (serves-first waiting input head held total held-is joins serial (record_of rec₀) out₀ f.result f.new.rec f.new.out f.ensures serial-huntable c.if-at-held.true _
+    (here-pending at_pending_length pending_room _ _ _ refl refl c.set_pending.ensures))
 
 pub slice_bounds-hunt_rest-count : goal.slice_bounds-hunt_rest-count
-slice_bounds-hunt_rest-count c = starts c.before.before.before.before.before.before (omega (arith, c.if-at-held.false))
-
--- ?? part-hunt-rest-start : tie.Need-slice-bounds-hunt-rest-start
--- ?? part-hunt-rest-start c = starts c.before.before.before.before.before.before (omega (arith, c.before.if1.false))
-
--- ?? part-hunt-rest-end : tie.Need-slice-bounds-hunt-rest-end
--- ?? part-hunt-rest-end c = search rules
+slice_bounds-hunt_rest-count c =
+    let rec₀ : List ℕ = c.args.rec.now in
+    let input : List ℕ = c.args.input.now in
+    let out₀ : List ℕ = c.args.out.now in
+    let held : ℕ = c.args.held in
+    let head : List ℕ = c.join-total.new.head in
+    let total : ℕ = c.join-total.result in
+    let sound : Sound rec₀ = c.requires.sound in
+    let waiting : List ℕ = (record_of rec₀).pending in
+    let held-is : held ≡ length waiting = c.requires.held_value in
+    let joins : Joins waiting input total head = subst (λ (p : List ℕ). Joins p input total head) (pending-part rec₀ sound held held-is) c.join-total.ensures in
+    let f = c.hunt_in-first in
+    let past : held ≤ f.result.at = omega (arith, c.if-at-held.false) in
+    from-inside waiting input head held total held-is joins serial (record_of rec₀) out₀ f.result f.new.rec f.new.out f.ensures past c.requires.input_in_bounds
 
 pub hunt_rest-rest-requires : goal.hunt_rest-rest-requires
 hunt_rest-rest-requires c =
+    let rec₀ : List ℕ = c.args.rec.now in
     let input : List ℕ = c.args.input.now in
+    let out₀ : List ℕ = c.args.out.now in
     let held : ℕ = c.args.held in
-    let at : ℕ = c.hunt_in-first.result.at in
-    record { table_value = c.requires.table_value; sound = going-sound _ _ _ _ _ _ _ _ _ _ c.hunt_in-first.ensures.going; s_len_bound = omega (arith, c.requires.input_len_bound, rest-long (input) (at - held)); s_in_bounds = fits f (omega (arith, c.if-at-held.false)) }
+    let head : List ℕ = c.join-total.new.head in
+    let total : ℕ = c.join-total.result in
+    let sound : Sound rec₀ = c.requires.sound in
+    let waiting : List ℕ = (record_of rec₀).pending in
+    let held-is : held ≡ length waiting = c.requires.held_value in
+    let joins : Joins waiting input total head = subst (λ (p : List ℕ). Joins p input total head) (pending-part rec₀ sound held held-is) c.join-total.ensures in
+    let f = c.hunt_in-first in
+    let past : held ≤ f.result.at = omega (arith, c.if-at-held.false) in
+    record {
+      table_value = c.requires.table_value;
+      sound = going-sound _ _ _ _ _ _ _ _ _ _ f.ensures.going;
+      s_len_bound = omega (arith, c.requires.input_len_bound, rest-long input (f.result.at - held));
+      s_in_bounds = rest-fits waiting input head held total held-is joins serial (record_of rec₀) out₀ f.result f.new.rec f.new.out f.ensures past c.requires.input_in_bounds;
+    }
 
 pub overflow_add-result : goal.overflow_add-result
 overflow_add-result c =
@@ -156,14 +178,13 @@ overflow_add-result c =
     let sound : Sound rec₀ = c.requires.sound in
     let waiting : List ℕ = (record_of rec₀).pending in
     let held-is : held ≡ length waiting = c.requires.held_value in
-    let few : held ≤ wait_most = number-few rec₀ sound held held-is in
     let joins : Joins waiting input total head = subst (λ (p : List ℕ). Joins p input total head) (pending-part rec₀ sound held held-is) c.join-total.ensures in
+    let few : held ≤ wait_most = number-few rec₀ sound held held-is in
     let long : length (take total head) ≡ total = stream-long waiting input head held total held-is joins in
     let sum : total ≡ held + (length input - (length input - frame_most)) = total-is waiting input head held total held-is joins in
-    let at : ℕ = c.hunt_in-first.result.at in
     let x = c.hunt_rest-rest.ensures.hunts.going.sofar.along in
-        let y = c.hunt_in-first.ensures.going.sofar.along in
-        omega (arith, x.few, x.within, y.few, y.within, long, sum, few, c.requires.input_len_bound, rest-long (input) (at - held))
+    let y = c.hunt_in-first.ensures.going.sofar.along in
+    omega (arith, x.few, x.within, y.few, y.within, long, sum, few, c.requires.input_len_bound, rest-long input (c.hunt_in-first.result.at - held))
 
 pub returns : goal.returns
 returns c =
@@ -177,7 +198,8 @@ returns c =
     let waiting : List ℕ = (record_of rec₀).pending in
     let held-is : held ≡ length waiting = c.requires.held_value in
     let joins : Joins waiting input total head = subst (λ (p : List ℕ). Joins p input total head) (pending-part rec₀ sound held held-is) c.join-total.ensures in
-    let rec₁ : List ℕ = c.hunt_in-first.new.rec in
-    let out₁ : List ℕ = c.hunt_in-first.new.out in
+    let f = c.hunt_in-first in
     let rest = c.hunt_rest-rest in
-        serves-board (record_of (rec₀)) (input) (out₀) _ _ _ (serves-second (waiting) (input) (head) (held) (total) (held-is) (joins) serial (record_of (rec₀)) (out₀) c.hunt_in-first.result (rec₁) (out₁) c.hunt_in-first.ensures (omega (arith, c.if-at-held.false)) c.requires.input_in_bounds serial-huntable rest.result _ _ rest.ensures)
+    let past : held ≤ f.result.at = omega (arith, c.if-at-held.false) in
+    serves-board (record_of rec₀) input out₀ _ _ _
+    (serves-second waiting input head held total held-is joins serial (record_of rec₀) out₀ f.result f.new.rec f.new.out f.ensures past c.requires.input_in_bounds serial-huntable rest.result _ _ rest.ensures)
