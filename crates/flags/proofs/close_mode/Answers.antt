@@ -3,7 +3,6 @@ use Rattle.flags.proofs.Turn.{turn-close}
 use native.Mathlib.Omega.{arith}
 use Rattle.record.specs.Layout.{FlagByte, at_flags}
 use Rattle.record.proofs.InPlaceLaws.{reaches}
-use borrow.Author.Rules.{rules}
 use Rattle.flags.proofs.close_mode.Goals as goal
 
 pub bounds-rec-3 : goal.bounds-rec-3

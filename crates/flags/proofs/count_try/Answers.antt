@@ -3,7 +3,6 @@ use Rattle.flags.proofs.Turn.{turn-tries}
 use native.Mathlib.Omega.{arith}
 use Rattle.record.specs.Layout.{TriesByte, at_tries}
 use Rattle.record.proofs.InPlaceLaws.{reaches}
-use borrow.Author.Rules.{rules}
 use Rattle.flags.proofs.count_try.Goals as goal
 
 pub bounds-rec-4 : goal.bounds-rec-4

@@ -1,18 +1,16 @@
 -- `form_of`: all groups of fields are fine exactly when the record is well formed.
 use Prim.Native.Nat.{ℕ}
 use mathlib.Core.Path.{◌≡◌, sym, ◌∙◌}
-use mathlib.Core.Logic.{⊎_elim}
 use mathlib.Core.Bool.{true, and-true}
 use mathlib.Core.List.{List}
 use native.Mathlib.Omega.{arith}
 use lib.ListN.{length}
-use borrow.Author.Tests.{not-true, not-false}
 use Rattle.record.specs.Layout.{record_size}
 use Rattle.record.specs.Form.{all_fine}
 use Rattle.form.specs.Groups.{model_fields, pending_fields}
 use Rattle.form.proofs.Fine.{model-none, pending-none, short, bad, good}
-use borrow.Author.Rules.{rules}
 use Rattle.form.proofs.form_of.Goals as goal
+use Rattle.form.proofs.form_of.Goals.{then-not-all_zero+else-not-model_fine, else-not-all_zero, then-not-all_zero-2+else-not-pending_fine, else-not-all_zero-2}
 
 pub returns-then-s-ne-RECORD_SIZE : goal.returns-then-s-ne-RECORD_SIZE
 returns-then-s-ne-RECORD_SIZE c = short c.args.s.now c.if-s-ne-RECORD_SIZE.true
@@ -48,7 +46,7 @@ pub returns-then-not-model_fine : goal.returns-then-not-model_fine
 returns-then-not-model_fine c =
     let s : List ℕ = c.args.s.now in
     let long : length s ≡ record_size = c.if-s-ne-RECORD_SIZE.false in
-    bad (s) (long) 5 (and-true _ ∙ sym c.model_fine.ensures ∙ c.if-not-model_fine.true)
+    bad s long 5 (and-true _ ∙ sym c.model_fine.ensures ∙ c.if-not-model_fine.true)
 
 pub all_zero-requires-2 : goal.all_zero-requires-2
 all_zero-requires-2 c =
@@ -66,7 +64,7 @@ pub returns-then-not-pending_fine : goal.returns-then-not-pending_fine
 returns-then-not-pending_fine c =
     let s : List ℕ = c.args.s.now in
     let long : length s ≡ record_size = c.if-s-ne-RECORD_SIZE.false in
-    bad (s) (long) 6 (sym c.pending_fine.ensures ∙ c.if-not-pending_fine.true)
+    bad s long 6 (sym c.pending_fine.ensures ∙ c.if-not-pending_fine.true)
 
 pub pairs_fine-requires : goal.pairs_fine-requires
 pairs_fine-requires c =
@@ -78,21 +76,25 @@ pub returns-then-not-pairs_fine : goal.returns-then-not-pairs_fine
 returns-then-not-pairs_fine c =
     let s : List ℕ = c.args.s.now in
     let long : length s ≡ record_size = c.if-s-ne-RECORD_SIZE.false in
-    bad (s) (long) 7 (sym c.pairs_fine.ensures ∙ c.if-not-pairs_fine.true)
+    bad s long 7 (sym c.pairs_fine.ensures ∙ c.if-not-pairs_fine.true)
 
 pub returns : goal.returns
 returns c =
     let s : List ℕ = c.args.s.now in
     let long : length s ≡ record_size = c.if-s-ne-RECORD_SIZE.false in
-    let model : all_fine (model_fields (s)) ≡ true = ⊎_elim (λ w. and-true _ ∙ sym w.1.ensures ∙ not-false _ w.2.left)
-    (λ w. model-none (s) (omega (arith, long)) (sym c.all_zero.ensures ∙ not-false _ w.left)) c.if-not-all_zero.branch in
-    let pending : all_fine (pending_fields (s)) ≡ true = ⊎_elim (λ w. sym w.1.ensures ∙ not-false _ w.2.left)
-    (λ w. pending-none (s) (omega (arith, long)) (sym c.all_zero-2.ensures ∙ not-false _ w.left)) c.if-not-all_zero-2.branch in
-    good (s) (long)
+    let model : all_fine (model_fields s) ≡ true = elim c.if-not-all_zero.branch [
+      | then-not-all_zero+else-not-model_fine w ↦ and-true _ ∙ sym w.model_fine.ensures ∙ w.if-not-model_fine.false
+      | else-not-all_zero w ↦ model-none s (omega (arith, long)) (sym c.all_zero.ensures ∙ w.if-not-all_zero.false)
+    ] in
+    let pending : all_fine (pending_fields s) ≡ true = elim c.if-not-all_zero-2.branch [
+      | then-not-all_zero-2+else-not-pending_fine w ↦ sym w.pending_fine.ensures ∙ w.if-not-pending_fine.false
+      | else-not-all_zero-2 w ↦ pending-none s (omega (arith, long)) (sym c.all_zero-2.ensures ∙ w.if-not-all_zero-2.false)
+    ] in
+    good s long
     (sym c.head_fine.ensures ∙ c.if-not-head_fine.false)
     (sym c.radio_fine.ensures ∙ c.if-not-radio_fine.false)
     (sym c.inputs_fine.ensures ∙ c.if-not-inputs_fine.false)
     (sym c.switches_fine.ensures ∙ c.if-not-switches_fine.false)
     (sym c.name_fine.ensures ∙ c.if-not-name_fine.false)
-    (model) (pending)
+    model pending
     (sym c.pairs_fine.ensures ∙ c.if-not-pairs_fine.false)

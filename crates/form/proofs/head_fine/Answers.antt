@@ -1,6 +1,5 @@
 -- `head_fine`: the tests of length, version, flags and tries are those of their fields.
 use Rattle.form.proofs.Groups.{head-is}
-use borrow.Author.Rules.{rules}
 use Rattle.form.proofs.head_fine.Goals as goal
 
 pub returns : goal.returns

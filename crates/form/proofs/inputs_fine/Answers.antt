@@ -1,6 +1,5 @@
 -- `inputs_fine`: the five tests of the input types are those of their fields.
 use Rattle.form.proofs.Groups.{inputs-is}
-use borrow.Author.Rules.{rules}
 use Rattle.form.proofs.inputs_fine.Goals as goal
 
 pub returns : goal.returns

@@ -1,7 +1,6 @@
 -- `model_fine`: zeros from the first zero on are what a model asks.
 use Rattle.form.proofs.Fine.{model_is}
 use mathlib.Core.Path.{◌∙◌}
-use borrow.Author.Rules.{rules}
 use Rattle.form.proofs.model_fine.Goals as goal
 
 pub returns : goal.returns

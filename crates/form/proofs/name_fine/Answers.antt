@@ -3,7 +3,6 @@ use Rattle.record.specs.Layout.{at_name_length, at_name}
 use Rattle.form.proofs.Names.{two-words}
 use Rattle.form.proofs.Fine.{name-long, name_by}
 use native.Mathlib.Omega.{arith}
-use borrow.Author.Rules.{rules}
 use Rattle.form.proofs.name_fine.Goals as goal
 
 pub overflow_cast-n : goal.overflow_cast-n

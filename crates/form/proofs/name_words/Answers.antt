@@ -1,6 +1,5 @@
 -- `name_words`: the highest bits of both words, and what a shift leaves of them.
 use Rattle.form.proofs.Names.{low-above, high-above, named-short, named-long}
-use borrow.Author.Rules.{rules}
 use Rattle.form.proofs.name_words.Goals as goal
 
 pub returns-then-low-ne0 : goal.returns-then-low-ne0

@@ -5,7 +5,6 @@ use Rattle.form.proofs.Pairs.{pairs-none}
 use mathlib.Core.Bool.{true, false}
 use mathlib.Core.Path.{◌∙◌}
 use borrow.Author.Tests.{eq-eqb, ne_eqb}
-use borrow.Author.Rules.{rules}
 use Rattle.form.proofs.pairs_fine.Goals as goal
 
 pub returns-then-s-eq1 : goal.returns-then-s-eq1

@@ -1,5 +1,5 @@
 -- `pairs_seen`: each pair in order, and the greatest of all patterns finite.
-use Prim.Native.Nat.{ℕ, ◌+◌, ◌-◌, ◌*◌, ◌%◌, ◌≤◌, max}
+use Prim.Native.Nat.{ℕ, ◌+◌, ◌*◌, ◌%◌, max}
 use mathlib.Core.Path.{◌≡◌, refl, sym, ap, ◌∙◌}
 use mathlib.Core.Bool.{◌&&◌, and-true}
 use native.Mathlib.Omega.{arith}
@@ -10,11 +10,6 @@ use Rattle.record.specs.Layout.{channels}
 use Rattle.form.proofs.Pairs.{left, left-all, left-none, left_out, left_in}
 use Rattle.form.proofs.pairs_seen.Goals as goal
 
--- the comparison is of the two values of pair i
-order : (c : tie.After-above invariant-loop decreases-loop) → let z = c.before.before.before.before in let a = z.before.before.args in let at = a.from + 8 * z.loop.i in
-    c.above.result ≡ less (word_at a.s.now at) (word_at a.s.now (at + 4))
-order c = c.above.ensures ∙ rw (c.before.before.word-at.ensures, c.before.word-at2.ensures) refl
-
 pub loop-i-init : goal.loop-i-init
 loop-i-init c = (omega arith, refl)
 
@@ -22,14 +17,17 @@ pub returns-then-above : goal.returns-then-above
 returns-then-above c =
     let l = c.loop-i in
     let a = c.args in
-    left_out a.s.now a.from channels l.i l.most (omega arith) (sym (order c.before) ∙ c.if-above.true) ∙ sym l.invariant.1 ∙ left-all a.s.now a.from channels
+    let at = a.from + 8 * l.i in
+    let order : c.above.result ≡ less (word_at a.s.now at) (word_at a.s.now (at + 4)) = c.above.ensures ∙ rw (c.word_at-greatest.ensures, c.word_at-smallest.ensures) refl in
+    left_out a.s.now a.from channels l.i l.most (omega arith) (sym order ∙ c.if-above.true) ∙ sym l.invariant.1 ∙ left-all a.s.now a.from channels
 
 pub loop-i-preserved : goal.loop-i-preserved
 loop-i-preserved c =
     let l = c.loop-i in
     let a = c.args in
-    let e = left_in a.s.now a.from channels l.i l.most (omega arith) (sym (order d) ∙ c.if-above.false) in
     let at = a.from + 8 * l.i in
+    let order : c.above.result ≡ less (word_at a.s.now at) (word_at a.s.now (at + 4)) = c.above.ensures ∙ rw (c.word_at-greatest.ensures, c.word_at-smallest.ensures) refl in
+    let e = left_in a.s.now a.from channels l.i l.most (omega arith) (sym order ∙ c.if-above.false) in
     let m : c.reach-most.result ≡ max (max l.most (word_at a.s.now at % 0x80000000)) (word_at a.s.now (at + 4) % 0x80000000) = c.reach-most.ensures ∙ rw (c.reach.ensures, c.word_at-greatest.ensures, c.word_at-smallest.ensures) refl in
     (omega arith, l.invariant.1 ∙ e ∙ ap (λ (n : ℕ). ltb n 0x7F800000 && left a.s.now a.from channels (l.i + 1)) (sym m))
 

@@ -3,7 +3,6 @@ use Rattle.form.proofs.Fine.{pending-long, pending-zeros, pending-bad}
 use mathlib.Core.Path.{sym, ◌∙◌}
 use native.Mathlib.Omega.{arith}
 use Rattle.record.specs.Layout.{at_pending_length}
-use borrow.Author.Rules.{rules}
 use Rattle.form.proofs.pending_fine.Goals as goal
 
 pub overflow_cast-n : goal.overflow_cast-n

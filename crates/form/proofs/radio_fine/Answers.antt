@@ -4,7 +4,6 @@ use Prim.Native.Nat.{ℕ}
 use mathlib.Core.Path.{ap, ◌∙◌}
 use Rattle.wire.specs.Ranges.{fits}
 use Rattle.record.specs.Limits.{power_range}
-use borrow.Author.Rules.{rules}
 use Rattle.form.proofs.radio_fine.Goals as goal
 
 pub returns : goal.returns

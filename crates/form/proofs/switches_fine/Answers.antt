@@ -1,6 +1,5 @@
 -- `switches_fine`: the tests of outputs, interval and filter word are those of their fields.
 use Rattle.form.proofs.Groups.{switches-is}
-use borrow.Author.Rules.{rules}
 use Rattle.form.proofs.switches_fine.Goals as goal
 
 pub returns : goal.returns

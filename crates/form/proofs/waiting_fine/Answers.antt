@@ -6,7 +6,6 @@ use lib.ListN.{get_or}
 use Rattle.wire.proofs.HeadLaws.{params-few}
 use Rattle.wire.specs.declared.Line.TheVariants.{Board}
 use Rattle.form.proofs.Pending.{none, not-aa, one, headless, headed}
-use borrow.Author.Rules.{rules}
 use Rattle.form.proofs.waiting_fine.Goals as goal
 
 pub returns-then-n-eq0 : goal.returns-then-n-eq0

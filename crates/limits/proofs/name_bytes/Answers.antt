@@ -1,11 +1,8 @@
 -- `name_bytes`: the loop finds a byte above 7F exactly where the name does not fit.
 use native.Mathlib.Omega.{arith}
-use Prim.Native.Nat.{◌-◌, ◌≤◌}
-use mathlib.Core.Path.{◌≡◌, refl, sym, ap, ◌∙◌}
+use mathlib.Core.Path.{refl, sym, ap, ◌∙◌}
 use Rattle.limits.proofs.Tests.{name-skip, name-hit, name-end}
-use Rattle.record.specs.Limits.{name_range}
 use Rattle.wire.specs.Ranges.{fits}
-use Rattle.wire.proofs.ScanLaws.{part}
 use Rattle.limits.proofs.name_bytes.Goals as goal
 
 pub loop-at-init : goal.loop-at-init

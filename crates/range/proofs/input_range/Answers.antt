@@ -1,7 +1,6 @@
 -- `input_range`: the channel first, then the type.
 use mathlib.Core.Path.{ap₂, ◌∙◌}
 use Rattle.wire.specs.Ranges.{also}
-use borrow.Author.Rules.{rules}
 use Rattle.range.proofs.input_range.Goals as goal
 
 pub returns : goal.returns

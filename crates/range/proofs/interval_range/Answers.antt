@@ -1,6 +1,5 @@
 -- `interval_range`: too big above 59, too small below 4 but for 0.
 use mathlib.Core.Path.{sym, ap, ◌∙◌}
-use borrow.Author.Rules.{rules}
 use Rattle.record.proofs.Pieces.{fits-is}
 use Rattle.range.proofs.Ranges.{side, interval-missed}
 use Rattle.range.proofs.interval_range.Goals as goal

@@ -1,7 +1,6 @@
 -- `name_range`: too big where a byte is above 7F.
 use mathlib.Core.Path.{sym, ◌∙◌}
 use Rattle.range.proofs.Ranges.{name-fits, name-big}
-use borrow.Author.Rules.{rules}
 use Rattle.range.proofs.name_range.Goals as goal
 
 pub returns-then-name_bytes : goal.returns-then-name_bytes

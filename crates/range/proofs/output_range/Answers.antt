@@ -1,7 +1,6 @@
 -- `output_range`: the output first, then its value.
 use mathlib.Core.Path.{ap₂, ◌∙◌}
 use Rattle.wire.specs.Ranges.{also}
-use borrow.Author.Rules.{rules}
 use Rattle.range.proofs.output_range.Goals as goal
 
 pub returns : goal.returns

@@ -1,6 +1,5 @@
 -- `power_range`: too big above 12, too small below -20.
 use mathlib.Core.Path.{sym, ap, ◌∙◌}
-use borrow.Author.Rules.{rules}
 use borrow.Author.Tests.{lt-ltb, le-ltb}
 use Rattle.record.proofs.Pieces.{fits-is}
 use Rattle.range.proofs.Ranges.{side, power-missed}

@@ -1,5 +1,4 @@
 -- `setting_range`: the kind of a setting's range tells which test it is.
-use native.Mathlib.Omega.{arith}
 use mathlib.Core.Path.{◌≡◌, sym, ap, ◌∙◌}
 use Prim.Native.Nat.{◌≤◌}
 use lib.ListN.{length}
@@ -9,7 +8,6 @@ use Rattle.record.specs.Layout.{current, filters}
 use Rattle.record.specs.Limits.{power_range, filter_range}
 use Rattle.record.specs.Settings.{range_by, looks_at, sheet_of}
 use Rattle.range.proofs.Ranges.{as_long}
-use borrow.Author.Rules.{rules}
 use Rattle.range.proofs.setting_range.Goals as goal
 
 pub bounds-p-0 : goal.bounds-p-0

@@ -3,7 +3,6 @@ use native.Mathlib.Omega.{arith}
 use mathlib.Core.Path.{refl}
 use borrow.Author.Tests.{lt-ltb, le-ltb}
 use Rattle.record.proofs.Bounds.{signed_range}
-use borrow.Author.Rules.{rules}
 use Rattle.range.proofs.signed_range.Goals as goal
 
 pub returns-then-b-gt127 : goal.returns-then-b-gt127

@@ -1,6 +1,5 @@
 -- `mask_of`: the bit of output k is 2 to the power k - 1.
 use Rattle.settings.proofs.Turn.{mask_is}
-use borrow.Author.Rules.{rules}
 use Rattle.settings.proofs.mask_of.Goals as goal
 
 pub returns : goal.returns

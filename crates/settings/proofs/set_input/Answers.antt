@@ -3,7 +3,6 @@ use Rattle.settings.proofs.Turn.{turn-input}
 use native.Mathlib.Omega.{arith}
 use Rattle.record.specs.Layout.{InputBytes, at_inputs}
 use Rattle.record.proofs.InPlaceLaws.{reaches}
-use borrow.Author.Rules.{rules}
 use Rattle.settings.proofs.set_input.Goals as goal
 
 pub bounds-rec-channel : goal.bounds-rec-channel

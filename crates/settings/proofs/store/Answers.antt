@@ -1,13 +1,12 @@
 -- `store`: the bytes of a number are the setting.
 use native.Mathlib.Omega.{arith}
-use mathlib.Core.Path.{◌≡◌, sym, ◌∙◌}
+use mathlib.Core.Path.{◌≡◌}
 use Prim.Native.Nat.{◌+◌, ◌≤◌}
 use lib.ListN.{length}
 use Rattle.record.specs.Settings.{sheet_of, setting_width}
 use Rattle.record.proofs.InPlaceLaws.{reaches}
 use Rattle.record.proofs.SettingLaws.{widths, setting-wide}
 use Rattle.settings.proofs.Turn.{turn-setting}
-use borrow.Author.Rules.{rules}
 use Rattle.settings.proofs.store.Goals as goal
 
 pub put_number-requires : goal.put_number-requires

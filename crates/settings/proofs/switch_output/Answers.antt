@@ -5,7 +5,6 @@ use Rattle.record.specs.Layout.{OutputByte, at_outputs}
 use Rattle.record.proofs.InPlaceLaws.{reaches}
 use Prim.Native.Nat.{◌<◌}
 use lib.ListN.{length}
-use borrow.Author.Rules.{rules}
 use Rattle.settings.proofs.switch_output.Goals as goal
 
 pub bounds-rec-19 : goal.bounds-rec-19

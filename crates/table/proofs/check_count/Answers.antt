@@ -1,7 +1,6 @@
 -- `check_count`: right between the least and the most that the entry's bits say.
 use native.Mathlib.Omega.{arith}
 use Rattle.table.proofs.Rows.{count_same, count-other, count_low, count-high, count-right}
-use borrow.Author.Rules.{rules}
 use Rattle.table.proofs.check_count.Goals as goal
 
 pub returns-then-n-span : goal.returns-then-n-span

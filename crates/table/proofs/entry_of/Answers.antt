@@ -3,7 +3,6 @@ use native.Mathlib.Omega.{arith}
 use Prim.Native.Nat.{◌<◌}
 use Rattle.command.specs.Entries.{kind_size}
 use Rattle.command.proofs.EntryLaws.{entry-says, entry-tidy}
-use borrow.Author.Rules.{rules}
 use Rattle.table.proofs.entry_of.Goals as goal
 
 pub returns : goal.returns

@@ -1,7 +1,6 @@
 -- `place_of`: the half of the head, and the number in it.
 use native.Mathlib.Omega.{arith}
 use mathlib.Core.Path.{refl, sym, ◌∙◌}
-use borrow.Author.Rules.{rules}
 use Rattle.table.proofs.place_of.Goals as goal
 
 pub returns-then-is_bt121 : goal.returns-then-is_bt121

@@ -1,7 +1,6 @@
 -- `decode`: the six pairs are those of the record's bytes.
 use native.Mathlib.Omega.{arith}
 use Rattle.reading.proofs.Readings.{six-decoded, first-there}
-use borrow.Author.Rules.{rules}
 use Rattle.reading.proofs.peaks.decode.Goals as goal
 
 pub peak_at-a-requires : goal.peak_at-a-requires

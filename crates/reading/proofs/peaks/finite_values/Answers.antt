@@ -1,6 +1,6 @@
 -- `finite_values`: the greatest of all patterns is finite when all are.
-use Prim.Native.Nat.{ℕ, ◌+◌, ◌-◌, ◌≤◌}
-use mathlib.Core.Path.{◌≡◌, refl, sym, ap, ◌∙◌}
+use Prim.Native.Nat.{ℕ, ◌+◌}
+use mathlib.Core.Path.{◌≡◌, sym, ap, ◌∙◌}
 use mathlib.Core.Bool.{◌&&◌}
 use native.Mathlib.Omega.{arith}
 use lib.ListN.{length, drop}
@@ -10,17 +10,15 @@ use Rattle.reading.specs.Decoded.{finite_all}
 use Rattle.reading.proofs.Readings.{finite-more, finite-none}
 use Rattle.reading.proofs.peaks.finite_values.Goals as goal
 
-six : (c : tie.Start invariant-loop decreases-loop) → length c.args.t1 ≡ 6
-six c = search rules
-
-pub loop-i-init : goal.loop-i-init
-loop-i-init c = (omega arith, refl)
-
 pub loop-i-preserved : goal.loop-i-preserved
 loop-i-preserved c =
-    let x = c.args.t1 in
+    let x = c.args.x in
     let l = c.loop-i in
-    (omega arith, l.invariant.1 ∙ finite-more x l.most l.i (omega (arith, six c.before.before.before)) ∙ ap (λ (n : ℕ). ltb n 0x7F800000 && finite_all (drop (l.i + 1) x)) (sym c.reach-most.ensures))
+    let six : length x ≡ 6 = search rules in
+    (omega arith, l.invariant.1 ∙ finite-more x l.most l.i (omega (arith, six)) ∙ ap (λ (n : ℕ). ltb n 0x7F800000 && finite_all (drop (l.i + 1) x)) (sym c.reach-most.ensures))
 
 pub returns : goal.returns
-returns c = let l = c.loop-i in sym (l.invariant.1 ∙ finite-none c.args.t1 l.most l.i (omega (arith, six c.before.before)))
+returns c =
+    let l = c.loop-i in
+    let six : length c.args.x ≡ 6 = search rules in
+    sym (l.invariant.1 ∙ finite-none c.args.x l.most l.i (omega (arith, six)))

@@ -1,13 +1,10 @@
 -- `finite_values`: the greatest of all patterns is finite when all are.
-use Prim.Native.Nat.{ℕ, ◌+◌, ◌-◌, ◌≤◌}
-use mathlib.Core.Path.{◌≡◌, refl, sym, ap, ◌∙◌}
+use Prim.Native.Nat.{◌-◌, ◌≤◌}
+use mathlib.Core.Path.{◌≡◌}
 use mathlib.Core.Bool.{◌&&◌}
-use native.Mathlib.Omega.{arith}
-use lib.ListN.{length, drop}
+use lib.ListN.{drop}
 use lib.Dec.{ltb}
-use borrow.Author.Rules.{rules}
 use Rattle.reading.specs.Decoded.{finite_all}
-use Rattle.reading.proofs.Readings.{finite-more, finite-none}
 use Rattle.reading.proofs.peaks.finite_values.Given as goal
 
 abbrev pub invariant-loop-i : goal.invariant-loop-i

@@ -1,5 +1,4 @@
 -- `peak_at`: one pair is that of the bytes at its place.
-use borrow.Author.Rules.{rules}
 use Rattle.reading.proofs.peaks.peak_at.Goals as goal
 
 pub finite_float-greatest-requires : goal.finite_float-greatest-requires

@@ -1,7 +1,6 @@
 -- `put_if`: a value that is taken is stored by one word.
 use mathlib.Core.Path.{ap, ◌∙◌}
 use Rattle.wire.specs.Numbers.{put}
-use borrow.Author.Rules.{rules}
 use Rattle.reading.proofs.peaks.put_if.Goals as goal
 
 pub returns-then-taken : goal.returns-then-taken

@@ -1,6 +1,5 @@
 -- `see`: the value is stored as the greatest, then as the smallest, where it is taken; so it is in the pair.
 use mathlib.Core.Path.{refl, ◌∙◌}
-use borrow.Author.Rules.{rules}
 use Rattle.reading.proofs.peaks.see.Goals as goal
 
 pub returns : goal.returns

@@ -1,13 +1,9 @@
 -- `see_all`: channel after channel, each by the pair that stood there.
 use Prim.Native.Nat.{ℕ, ◌-◌, ◌≤◌}
-use mathlib.Core.Path.{◌≡◌, refl, sym, subst, ◌∙◌}
-use native.Mathlib.Omega.{arith}
+use mathlib.Core.Path.{◌≡◌}
 use lib.ListN.{length, get_or}
-use lib.Seq.{get_or-set_other}
-use borrow.Author.Rules.{rules}
 use Rattle.record.specs.Layout.{channels}
-use Rattle.reading.specs.Decoded.{Numbers, no_peak, seen_up_to}
-use Rattle.reading.proofs.Readings.{finite-of, seen_none, seen_more, seen_done}
+use Rattle.reading.specs.Decoded.{no_peak, seen_up_to}
 use Rattle.reading.proofs.peaks.see_all.Given as goal
 
 abbrev pub invariant-loop-k : goal.invariant-loop-k

@@ -1,6 +1,5 @@
 -- `values_of`: six words one behind the other.
 use mathlib.Core.Path.{refl}
-use borrow.Author.Rules.{rules}
 use Rattle.reading.proofs.peaks.values_of.Goals as goal
 
 pub returns : goal.returns

@@ -1,0 +1,23 @@
+-- `join`: the buffer holds the pending bytes and what they can reach of the input.
+use native.Mathlib.Omega.{arith}
+use Rattle.hunt.proofs.JoinLaws.{reach-long, held-long, joined_is}
+use mathlib.Core.Path.{sym}
+use borrow.Author.Rules.{rules}
+use Rattle.hunt.proofs.join.Goals as goal
+
+-- ?? part-put-few-start : tie.Need-slice-bounds-put-few-start
+-- ?? part-put-few-start c = search rules
+
+-- ?? part-put-few-end : tie.Need-slice-bounds-put-few-end
+-- ?? part-put-few-end c = search rules
+
+pub slice_bounds-put_few-end-2 : goal.slice_bounds-put_few-end-2
+slice_bounds-put_few-end-2 c = sym (reach-long _ c.args.input.now c.reach-n.ensures)
+
+pub put_few-requires : goal.put_few-requires
+put_few-requires c = omega (arith, c.requires, c.put_few-end.ensures.0, c.put_few-end.auto, c.reach-n.ensures, reach-long _ c.args.input.now c.reach-n.ensures, held-long c.args.rec.now c.args.at c.args.held c.requires.0)
+
+pub returns : goal.returns
+returns c =
+    joined_is c.args.rec.now c.args.at c.args.held c.requires.0 c.args.input.now c.args.head.now _ _ _ _ _ c.requires.1 c.requires.2 c.reach-n.ensures
+    c.put_few-end.ensures.0 c.put_few-end.ensures.1 c.put_few.ensures.0 c.put_few.ensures.1
