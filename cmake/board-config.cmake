@@ -1,10 +1,10 @@
-# The header and the archive as the target board::board; 'rt staticlib board' makes the archive.
+# The header and the archive as the target board::board; 'tools/archive' makes the archive.
 get_filename_component(_board_root "${CMAKE_CURRENT_LIST_DIR}/.." ABSOLUTE)
 set(_board_archive "${_board_root}/target/staticlib/libboard.a")
 
 if(NOT EXISTS "${_board_archive}")
   set(board_FOUND FALSE)
-  set(board_NOT_FOUND_MESSAGE "${_board_archive} is missing: run 'rt staticlib board' in ${_board_root}")
+  set(board_NOT_FOUND_MESSAGE "${_board_archive} is missing: run 'tools/archive' in ${_board_root}")
 elseif(NOT CMAKE_SYSTEM_PROCESSOR MATCHES "^(x86_64|AMD64|amd64)$")
   set(board_FOUND FALSE)
   set(board_NOT_FOUND_MESSAGE "the archive is x86-64 code, not ${CMAKE_SYSTEM_PROCESSOR}")

@@ -46,7 +46,7 @@ module _ {n : ℕ} (ps : List (ParamKind n)) (q : ResultKind n) (Z : Type 0) (Al
   left : {A : Type 0} (z x : Z) → A ≡ Allowed z x → A → x ≡ z
   left z x e p = allowed z x (subst (λ B. B) e p)
 
-  exported : (pre : In n ps) (post : Out n ps q) (outcome : (κs : Lfts n) → Dens κs ps → Z) (seen : (κs : Lfts n) → (res_t q κs).Denot → AtExit (ended_of n ps q) κs → Z)
+  pub exported : (pre : In n ps) (post : Out n ps q) (outcome : (κs : Lfts n) → Dens κs ps → Z) (seen : (κs : Lfts n) → (res_t q κs).Denot → AtExit (ended_of n ps q) κs → Z)
       → ((κs : Lfts n) (a : Dens κs ps) → pre κs a)
       → ((κs : Lfts n) (a : Dens κs ps) (r : (res_t q κs).Denot) (s : AtExit (ended_of n ps q) κs) → post κs a r s ≡ Allowed (outcome κs a) (seen κs r s))
       → Exported ps q Z Allowed pre post outcome seen

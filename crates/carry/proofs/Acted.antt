@@ -4,7 +4,7 @@ use mathlib.Core.Path.{◌≡◌, refl, sym, ap, subst⁻¹, ◌∙◌}
 use mathlib.Core.List.{List, []}
 use native.Mathlib.Omega.{arith}
 use lib.ListN.{length, get_or, take, drop}
-use Rattle.wire.specs.Sizes.{data_most, frame_most}
+use Rattle.wire.specs.Sizes.{frame_most}
 use Rattle.wire.specs.Numbers.{Bytes, put}
 use Rattle.wire.specs.Serial.{head_of, number_of, params_of}
 use Rattle.wire.specs.Replies.{Reply, kind_of, reply_bytes, around}
@@ -14,13 +14,13 @@ use Rattle.wire.proofs.PutLaws.{put-nil}
 use Rattle.wire.proofs.ReplyLaws.{length-reply, closed-reply}
 use Rattle.record.specs.Record.{Record}
 use Rattle.record.specs.Layout.{bytes_of, record_of}
-use Rattle.record.specs.InPlace.{Holds, Sound, Turns, Shows}
+use Rattle.record.specs.InPlace.{Holds, Sound, Turns}
 use Rattle.record.proofs.InPlaceLaws.{turn_holds}
 use Rattle.record.proofs.Lens.{get-tries}
-use Rattle.command.specs.Tables.{listed_of, span_of, counted_in, counted_of, need_of, range_of, named_by}
+use Rattle.command.specs.Tables.{listed_of, span_of, counted_in, counted_of, need_of, range_of}
 use Rattle.command.specs.Entries.{said_by, rows_say, unpacked}
 use Rattle.command.specs.Effects.{effect_of, data_of}
-use Rattle.command.specs.Judge.{status_of, access_of, by_count, by_access, by_range, judged, verdict_of}
+use Rattle.command.specs.Judge.{access_of, by_count, by_access, by_range, verdict_of}
 use Rattle.command.specs.Step.{left_by, settled, Step, step_by, step_of}
 use Rattle.command.specs.declared.Command.{Command}
 use Rattle.command.specs.declared.Listed.{Listed}
@@ -33,7 +33,6 @@ use Rattle.command.specs.declared.Refusal.{Refusal}
 use Rattle.command.specs.declared.Refusal.TheVariants.{Unknown, Unbuilt, Miscounted, NoAccess, BadCode, TooBig, TooSmall}
 use Rattle.command.specs.declared.Verdict.{Verdict}
 use Rattle.command.specs.declared.Verdict.TheVariants.{Do, Refuse}
-use Rattle.command.specs.declared.Judged.{Judged}
 use Rattle.command.specs.declared.Judged.TheVariants.{Passed, Refused}
 use Rattle.command.proofs.EntryLaws.{apart}
 use Rattle.command.proofs.Named.{named-is}

@@ -6,8 +6,7 @@ use mathlib.Core.List.{List, [], ◌∷◌, ◌++◌}
 use borrow.Author.Tests.{eqb-true}
 use lib.Dec.{eqb}
 use Rattle.command.specs.declared.Command.{Command}
-use Rattle.command.specs.declared.Listed.{Listed}
-use Rattle.command.specs.declared.Listed.TheVariants.{Built, NotBuilt, Unlisted}
+use Rattle.command.specs.declared.Listed.TheVariants.{Built, NotBuilt}
 use Rattle.command.specs.Rows.{row_of, radio_commands, amplifier_commands}
 use Rattle.command.specs.Tables.{CommandRow, built, unbuilt, bt121, amplifier, look_up, listed_of, named_by}
 use Rattle.command.proofs.EntryLaws.{apart}

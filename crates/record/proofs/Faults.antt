@@ -13,7 +13,7 @@ use Rattle.wire.specs.Numbers.{bytes_at}
 use Rattle.wire.proofs.NumberLaws.{length_part, part-all}
 use Rattle.record.specs.Layout.{Part, FlagByte, CodeWord, same, has, lay, Plan, width, place, plan_size, part_in}
 use Rattle.record.specs.Laid.{Laid}
-use Rattle.record.specs.Form.{Field, field, all_fine, tests_of, tests_by, reading_by, fields_in, well_in, NoFault, FaultAt, first_fault, fault_in}
+use Rattle.record.specs.Form.{Field, all_fine, tests_of, tests_by, reading_by, fields_in, well_in, NoFault, FaultAt, first_fault, fault_in}
 use Rattle.record.proofs.Layouts.{same-is, has_first, has-later, upd, lay-part, lay-store, cut-lay}
 
 fault-by : (fs : List Field) → all_fine fs ≡ true → first_fault fs ≡ NoFault

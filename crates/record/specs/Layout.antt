@@ -1,6 +1,6 @@
 -- The bytes of a record: the parts that there are, a layout as a list of them, the bytes of a record value, and the value that bytes stand for.
 -- Where each part of a layout stands is a sum over the parts before it; `Places` has the tables.
-use Rattle.std.specs.Prelude.{ℕ, zero, suc, ◌+◌, ◌*◌, ◌/◌, ◌%◌, Bool, true, false, cond, not, ◌&&◌, ◌||◌, List, [], ◌∷◌, ◌++◌, length, get_or, take, eqb, leb}
+use Rattle.std.specs.Prelude.{ℕ, suc, ◌+◌, ◌*◌, ◌/◌, ◌%◌, Bool, true, false, cond, not, ◌&&◌, ◌||◌, List, [], ◌∷◌, ◌++◌, length, get_or, take, eqb, leb}
 use Rattle.wire.specs.Numbers.{half_at, word_at, bytes2, bytes4, bytes_at}
 use Rattle.wire.specs.Zeros.{before_zero}
 use Rattle.wire.specs.Sizes.{wait_most}

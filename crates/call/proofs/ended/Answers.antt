@@ -1,6 +1,5 @@
 -- `ended`: an ending becomes its number and its place, with zero counts.
 use mathlib.Core.Path.{refl}
-use borrow.Author.Rules.{rules}
 use Rattle.call.proofs.ended.Goals as goal
 
 pub returns : goal.returns

@@ -1,6 +1,5 @@
 -- `read_ended`: an ending becomes its number, with zero counts.
 use mathlib.Core.Path.{refl}
-use borrow.Author.Rules.{rules}
 use Rattle.call.proofs.read_ended.Goals as goal
 
 pub returns : goal.returns

@@ -1,7 +1,6 @@
 -- `act`: what the entry refuses and what is carried out leave what the definition says.
 use native.Mathlib.Omega.{arith}
 use mathlib.Core.Path.{◌≡◌, sym, ◌∙◌}
-use mathlib.Core.Logic.{⊎_elim}
 use Prim.Native.Nat.{ℕ}
 use Rattle.record.specs.Layout.{record_of}
 use Rattle.command.specs.declared.Judged.{Judged}
@@ -12,7 +11,6 @@ use Rattle.command.specs.Entries.{rows_say, unpacked}
 use Rattle.command.specs.Judge.{verdict_of}
 use Rattle.judge.specs.Checks.{judged_by}
 use Rattle.carry.proofs.Acted.{Passes, passes, refuses, calls, countable, acts-denied, acts-told, acts-small, acts-big}
-use borrow.Author.Rules.{rules}
 use Rattle.carry.proofs.act.Goals as goal
 
 pub refuse_on-requires : goal.refuse_on-requires

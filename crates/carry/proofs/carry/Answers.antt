@@ -6,7 +6,6 @@ use Rattle.wire.specs.Serial.{head_of, number_of}
 use Rattle.record.specs.Layout.{record_of}
 use Rattle.carry.specs.Carry.{Acts}
 use Rattle.carry.proofs.Acted.{part, carries}
-use borrow.Author.Rules.{rules}
 use Rattle.carry.proofs.carry.Goals as goal
 
 pub act-said-requires : goal.act-said-requires

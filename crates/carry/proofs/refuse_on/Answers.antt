@@ -1,13 +1,10 @@
 -- `refuse_on`: a refusal leaves the record as it was, but for the try of a wrong code.
-use mathlib.Core.Path.{◌≡◌, refl, sym, ap, ◌∙◌}
-use mathlib.Core.List.{[], ◌∷◌}
-use types.Run.{miss}
+use mathlib.Core.Path.{refl, sym, ap, ◌∙◌}
 use Rattle.record.specs.Layout.{TriesByte, at_tries, bytes_of}
 use Rattle.record.proofs.InPlaceLaws.{sound-at, here}
 use Rattle.command.specs.declared.Refusal.TheVariants.{BadCode}
 use Rattle.command.specs.Step.{left_by}
 use Rattle.carry.proofs.Acted.{left-none, left_as}
-use borrow.Author.Rules.{rules}
 use Rattle.carry.proofs.refuse_on.Goals as goal
 
 pub count_try-requires : goal.count_try-requires

@@ -1,6 +1,5 @@
 -- `put_input`: the input type of the channel is put.
 use Rattle.data.proofs.Data.{answers-input}
-use borrow.Author.Rules.{rules}
 use Rattle.data.proofs.put_input.Goals as goal
 
 pub returns : goal.returns

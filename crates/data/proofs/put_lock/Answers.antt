@@ -1,6 +1,5 @@
 -- `put_lock`: 08 is put for an unlocked board, 00 for a locked one.
 use Rattle.data.proofs.Data.{answers-lock}
-use borrow.Author.Rules.{rules}
 use Rattle.data.proofs.put_lock.Goals as goal
 
 pub returns : goal.returns

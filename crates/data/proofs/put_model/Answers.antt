@@ -1,6 +1,5 @@
 -- `put_model`: the model is put, and a 00 behind it where it is shorter than its room.
 use Rattle.data.proofs.Data.{answers-cut, answers-whole}
-use borrow.Author.Rules.{rules}
 use Rattle.data.proofs.put_model.Goals as goal
 
 -- ?? part-put-few-start : tie.Need-slice-bounds-put-few-start

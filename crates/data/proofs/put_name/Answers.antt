@@ -2,7 +2,6 @@
 use lib.ListN.{get_or}
 use Rattle.record.specs.Layout.{at_name_length}
 use Rattle.data.proofs.Data.{answers-name}
-use borrow.Author.Rules.{rules}
 use Rattle.data.proofs.put_name.Goals as goal
 
 -- ?? part-put-few-start : tie.Need-slice-bounds-put-few-start

@@ -5,7 +5,6 @@ use mathlib.Core.Logic.{inr}
 use Prim.Native.Nat.{◌+◌, ◌-◌, ◌*◌}
 use lib.ListN.{length-set}
 use Rattle.data.proofs.Data.{answers-pair}
-use borrow.Author.Rules.{rules}
 use Rattle.data.proofs.put_pair.Goals as goal
 
 pub put_number-requires : goal.put_number-requires

@@ -4,7 +4,6 @@ use Rattle.wire.proofs.PutLaws.{narrow}
 use Rattle.record.specs.Settings.{setting_place, setting_width}
 use Rattle.record.proofs.SettingLaws.{widths}
 use Rattle.data.proofs.Data.{answers_number}
-use borrow.Author.Rules.{rules}
 use Rattle.data.proofs.put_setting.Goals as goal
 
 pub put_number-requires : goal.put_number-requires

@@ -1,21 +1,15 @@
 -- `bare`: each number of a command without parameters leaves what its row says; what is left reads a setting.
 use native.Mathlib.Omega.{arith}
-use mathlib.Core.Path.{◌≡◌, refl}
-use mathlib.Core.List.{List, []}
-use Prim.Native.Nat.{ℕ}
+use mathlib.Core.Path.{refl}
+use mathlib.Core.List.{[]}
 use Rattle.record.specs.Layout.{FlagByte, NamePart, at_flags, at_name_length}
 use Rattle.record.proofs.InPlaceLaws.{sound-at, sound-long}
-use Rattle.command.specs.declared.Command.{Command}
 use Rattle.command.specs.declared.Command.TheVariants.{Open, Close, Read, ReadName, SetName, ReadLock, ReadModel, StopSending, StartSending}
-use Rattle.command.specs.declared.Listed.TheVariants.{Built}
 use Rattle.command.specs.Tables.{named_by}
 use Rattle.command.specs.Effects.{effect_of}
-use Rattle.ranged.specs.declared.Done.{Done}
 use Rattle.ranged.specs.declared.Done.TheVariants.{Told}
-use Rattle.effect.specs.Carried.{Does, Carried}
 use Rattle.effect.proofs.Arms.{carried, told, left-reads}
 use Rattle.effect.proofs.Rows.{sound-name, opens, closes, unnames, stops, starts, tells-name, tells-lock, tells-model}
-use borrow.Author.Rules.{rules}
 use Rattle.effect.proofs.bare.Goals as goal
 
 pub open_mode-requires : goal.open_mode-requires

@@ -1,7 +1,6 @@
 -- `carry_out`: with no parameters the one, else the other.
 use native.Mathlib.Omega.{arith}
 use Rattle.effect.proofs.Arms.{no_length}
-use borrow.Author.Rules.{rules}
 use Rattle.effect.proofs.carry_out.Goals as goal
 
 pub bare-requires : goal.bare-requires

@@ -1,22 +1,15 @@
 -- `full`: each number of a command with parameters leaves what its row says; what is left sets a setting.
-use mathlib.Core.Path.{◌≡◌, refl}
-use mathlib.Core.List.{List}
+use mathlib.Core.Path.{refl}
 use lib.ListN.{length}
-use Prim.Native.Nat.{ℕ}
 use Rattle.record.specs.Layout.{FlagByte, ModelPart, at_flags, at_model}
 use Rattle.record.proofs.InPlaceLaws.{sound-at}
-use Rattle.command.specs.declared.Command.{Command}
 use Rattle.command.specs.declared.Command.TheVariants.{Set, SetName, SetInput, ReadInput, SwitchOutput, Unlock, SetModel, ReadPair}
-use Rattle.command.specs.declared.Listed.TheVariants.{Built}
 use Rattle.command.specs.Tables.{named_by, span_of}
 use Rattle.command.specs.Effects.{effect_of, data_of}
 use Rattle.command.proofs.Keep.{counted-span}
-use Rattle.ranged.specs.declared.Done.{Done}
 use Rattle.ranged.specs.declared.Done.TheVariants.{Told}
-use Rattle.effect.specs.Carried.{Does, Carried}
 use Rattle.effect.proofs.Arms.{counted, carried, stored, told, left-sets}
 use Rattle.effect.proofs.Rows.{unlocks, models}
-use borrow.Author.Rules.{rules}
 use Rattle.effect.proofs.full.Goals as goal
 
 pub write_name-requires : goal.write_name-requires

@@ -3,22 +3,16 @@ use Rattle.record.proofs.InPlaceLaws.{holds-long}
 use native.Mathlib.Omega.{arith}
 use Rattle.record.specs.Record.{Record}
 use Rattle.record.specs.Layout.{record_of}
-use Rattle.hunt.specs.Progress.{Going, Hunts}
-use Rattle.hunt.specs.declared.Progress.{Progress}
+use Rattle.hunt.specs.Progress.{Hunts}
 use Rattle.finder.proofs.FinderLaws.{shown-frame, shown-torn, shown-nothing}
 use Rattle.wire.proofs.AlongLaws.{found-room}
 use Rattle.hunt.proofs.GoingLaws.{going_start, going-sound, going-kept, going-long, going-room, going-frame, framed-pass, framed-tear, framed-carried}
-use borrow.Author.Rules.{rules}
-use Prim.Native.Nat.{ℕ, ◌+◌, ◌-◌, ◌≤◌}
-use mathlib.Core.Path.{◌≡◌, sym, ◌∙◌, subst}
-use mathlib.Core.Logic.{inl, ⊎_elim}
-use mathlib.Core.List.{List}
-use lib.ListN.{length, drop}
-use Rattle.wire.specs.Sizes.{stream_most}
-use Rattle.wire.specs.Frames.{Heads, look, Take}
+use Prim.Native.Nat.{ℕ, ◌-◌, ◌≤◌}
+use mathlib.Core.Path.{sym, ◌∙◌, subst}
+use mathlib.Core.Logic.{inl}
+use Rattle.wire.specs.Frames.{Heads}
 use Rattle.wire.specs.Serial.{heads_of}
 use Rattle.wire.proofs.SerialLaws.{huntable}
-use Rattle.finder.specs.declared.Seen.TheVariants.{Frame, Torn}
 use Rattle.hunt.proofs.hunt_in.Goals as goal
 use Rattle.hunt.proofs.hunt_in.Goals.{else-hunt-test, then-hunt-test+in-NoMore}
 
@@ -132,7 +126,7 @@ shape_of-out c =
 pub overflow_sub-result : goal.overflow_sub-result
 overflow_sub-result c =
     elim c.hunt-test.branch [
-      else-hunt-test w ↦ omega (arith, w.at-is, c.hunt.invariant.0)
+      | else-hunt-test w ↦ omega (arith, w.at-is, c.hunt.invariant.0)
       | then-hunt-test+in-NoMore w ↦ omega (arith, w.at-is, c.hunt.invariant.0, w.find-found.ensures.passed.after)
     ]
 
@@ -143,7 +137,7 @@ returns c =
     let l = c.hunt in
     let Left : ℕ → Type 0 = λ at. Hunts heads r c.args.s.now c.args.out.now c.args.until c.args.start (record { at = at; wrote = l.wrote; skipped = at - l.framed }) l.rec l.out in
     elim c.hunt-test.branch [
-      else-hunt-test w ↦ subst Left (sym w.at-is) (record { going = l.invariant.1; stops = inl w.hunt-test.false })
+      | else-hunt-test w ↦ subst Left (sym w.at-is) (record { going = l.invariant.1; stops = inl w.hunt-test.false })
       | then-hunt-test+in-NoMore w ↦ subst Left (sym w.at-is) (record {
         going = framed-pass heads c.args.s.now c.args.out.now c.args.start r l.at l.framed l.wrote l.rec l.out l.invariant.0 l.invariant.1 w.find-found.result.at w.find-found.ensures.passed;
         stops = shown-nothing heads c.args.s.now l.at c.args.until w.find-found.result w.find-found.ensures w.in-NoMore.is;

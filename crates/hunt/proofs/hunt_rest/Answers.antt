@@ -6,7 +6,6 @@ use Rattle.hunt.proofs.JoinLaws.{roomed, rests-kept, rests-short, rests}
 use Rattle.wire.specs.Serial.{heads_of}
 use Rattle.wire.proofs.SerialLaws.{huntable}
 use Rattle.record.specs.Layout.{pending_room, at_pending_length}
-use borrow.Author.Rules.{rules}
 use Rattle.hunt.proofs.hunt_rest.Goals as goal
 
 pub hunt_in-p-requires : goal.hunt_in-p-requires

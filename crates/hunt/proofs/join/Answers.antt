@@ -2,7 +2,6 @@
 use native.Mathlib.Omega.{arith}
 use Rattle.hunt.proofs.JoinLaws.{reach-long, held-long, joined_is}
 use mathlib.Core.Path.{sym}
-use borrow.Author.Rules.{rules}
 use Rattle.hunt.proofs.join.Goals as goal
 
 -- ?? part-put-few-start : tie.Need-slice-bounds-put-few-start

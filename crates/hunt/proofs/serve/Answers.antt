@@ -1,13 +1,12 @@
 -- `serve`: with no pending bytes the stream is the input; else the hunt begins in them.
 use native.Mathlib.Omega.{arith}
 use mathlib.Core.Path.{◌≡◌, sym, ◌∙◌}
-use mathlib.Core.List.{List, []}
+use mathlib.Core.List.{[]}
 use Rattle.record.specs.Layout.{record_of}
 use Rattle.record.proofs.InPlaceLaws.{holds-long}
 use Rattle.wire.specs.Serial.{serial}
 use Rattle.hunt.proofs.ServeLaws.{serves-board, serves-input, none-there}
 use Rattle.hunt.proofs.JoinLaws.{held-is, held-few}
-use borrow.Author.Rules.{rules}
 use Rattle.hunt.proofs.serve.Goals as goal
 
 pub bounds-rec-56 : goal.bounds-rec-56

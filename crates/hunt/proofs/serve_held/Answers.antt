@@ -1,12 +1,11 @@
 -- `serve_held`: the hunt through the join and the hunt through the input are the hunt through both.
 use Rattle.record.proofs.InPlaceLaws.{here-pending}
 use native.Mathlib.Omega.{arith}
-use Prim.Native.Nat.{ℕ, ◌+◌, ◌-◌, ◌≤◌, ◌<◌}
+use Prim.Native.Nat.{ℕ, ◌+◌, ◌-◌, ◌≤◌}
 use mathlib.Core.Path.{◌≡◌, refl, sym, subst}
 use mathlib.Core.List.{List}
-use lib.ListN.{length, take, drop}
+use lib.ListN.{length, take}
 use Rattle.wire.specs.Sizes.{frame_most, wait_most}
-use Rattle.command.specs.Hunt.{room_for}
 use Rattle.record.specs.Layout.{pending_room, at_pending_length, record_of}
 use Rattle.record.specs.InPlace.{Sound}
 use Rattle.wire.specs.Serial.{serial}
@@ -15,7 +14,6 @@ use Rattle.hunt.specs.Progress.{Joins}
 use Rattle.hunt.proofs.GoingLaws.{going-sound}
 use Rattle.hunt.proofs.ServeLaws.{serves-board}
 use Rattle.hunt.proofs.JoinLaws.{roomed, number-few, number-inside, pending-part, total-is, stream-long, first-kept, short-first, serves-first, rest-long, from-inside, rest-fits, serves-second}
-use borrow.Author.Rules.{rules}
 use Rattle.hunt.proofs.serve_held.Goals as goal
 
 pub join-total-requires : goal.join-total-requires

@@ -2,14 +2,12 @@
 use Prim.Native.Nat.{ℕ, ◌/◌, ◌≤◌, ◌<◌}
 use mathlib.Core.Path.{◌≡◌, sym, ◌∙◌}
 use mathlib.Core.Bool.{Bool}
-use Rattle.record.specs.Record.{Record}
 use Rattle.record.specs.InPlace.{Shows}
 use Rattle.command.specs.declared.Need.{Need}
 use Rattle.command.specs.declared.Need.TheVariants.{Unlocked, Code}
 use Rattle.command.specs.Entries.{need_bits, need_in}
 use Rattle.command.specs.Judge.{access_of}
 use Rattle.judge.proofs.Checks.{flag-sound, flag-here, upper, not-unlocked, not_code, open-given, open-missing, closed-missing, closed-given}
-use borrow.Author.Rules.{rules}
 use Rattle.judge.proofs.check_access.Goals as goal
 
 pub is_open-requires : goal.is_open-requires

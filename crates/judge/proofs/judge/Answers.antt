@@ -1,7 +1,5 @@
 -- `judge`: the first check that does not pass is what the entry decides.
-use native.Mathlib.Omega.{arith}
 use mathlib.Core.Path.{◌≡◌, sym, ◌∙◌}
-use mathlib.Core.Logic.{⊎_elim}
 use lib.ListN.{length}
 use Rattle.command.specs.declared.Numbered.TheVariants.{AsCommand}
 use Rattle.command.specs.declared.Counted.TheVariants.{Right}
@@ -9,7 +7,6 @@ use Rattle.command.specs.declared.Access.TheVariants.{Given, Missing, WrongCode}
 use Rattle.command.specs.Tables.{counted_in}
 use Rattle.command.specs.Entries.{numbered_by, span_in, unpacked}
 use Rattle.judge.proofs.Checks.{may-ask, by-unbuilt, by-unknown, by_count_lem, by-access, left-missing}
-use borrow.Author.Rules.{rules}
 use Rattle.judge.proofs.judge.Goals as goal
 
 pub returns-in-AsNotBuilt : goal.returns-in-AsNotBuilt

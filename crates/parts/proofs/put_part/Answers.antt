@@ -4,7 +4,6 @@ use Prim.Native.Nat.{ℕ}
 use mathlib.Core.Path.{ap, ◌∙◌}
 use mathlib.Core.List.{List}
 use Rattle.wire.specs.Numbers.{put}
-use borrow.Author.Rules.{rules}
 use Rattle.parts.proofs.put_part.Goals as goal
 
 pub returns : goal.returns

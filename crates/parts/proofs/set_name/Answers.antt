@@ -5,7 +5,6 @@ use Prim.Native.Nat.{◌+◌, ◌≤◌}
 use lib.ListN.{length, length-set}
 use Rattle.record.specs.Layout.{NamePart, name_room, at_name_length, at_name}
 use Rattle.record.proofs.InPlaceLaws.{reaches}
-use borrow.Author.Rules.{rules}
 use Rattle.parts.proofs.set_name.Goals as goal
 
 pub bounds-rec-25 : goal.bounds-rec-25

@@ -1,7 +1,6 @@
 -- `read_input`: in range the data are put, out of range nothing is.
 use native.Mathlib.Omega.{arith}
 use mathlib.Core.Path.{sym, ◌∙◌}
-use mathlib.Core.Logic.{⊎_elim}
 use lib.ListN.{length}
 use Rattle.record.proofs.InPlaceLaws.{sound-long}
 use Rattle.command.specs.declared.Command.TheVariants.{ReadInput}
@@ -9,7 +8,6 @@ use Rattle.command.specs.Tables.{span_of, range_of}
 use Rattle.command.proofs.Keep.{counted-span}
 use Rattle.command.proofs.Admitted.{read-input-channel}
 use Rattle.ranged.proofs.Rows.{missed-channel, tells-input}
-use borrow.Author.Rules.{rules}
 use Rattle.ranged.proofs.read_input.Goals as goal
 
 pub channel_range-range-requires : goal.channel_range-range-requires

@@ -1,7 +1,6 @@
 -- `read_pair`: in range the data are put, out of range nothing is.
 use native.Mathlib.Omega.{arith}
 use mathlib.Core.Path.{sym, ◌∙◌}
-use mathlib.Core.Logic.{⊎_elim}
 use lib.ListN.{length}
 use Rattle.record.proofs.InPlaceLaws.{sound-long}
 use Rattle.command.specs.declared.Command.TheVariants.{ReadPair}
@@ -9,7 +8,6 @@ use Rattle.command.specs.Tables.{span_of, range_of}
 use Rattle.command.proofs.Keep.{counted-span}
 use Rattle.command.proofs.Admitted.{pair-channel}
 use Rattle.ranged.proofs.Rows.{missed-pair, tells-pair}
-use borrow.Author.Rules.{rules}
 use Rattle.ranged.proofs.read_pair.Goals as goal
 
 pub pair_range-range-requires : goal.pair_range-range-requires

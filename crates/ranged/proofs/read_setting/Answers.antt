@@ -10,7 +10,6 @@ use Rattle.table.proofs.TouchedLaws.{reads-one}
 use Rattle.ranged.specs.declared.Done.TheVariants.{Told}
 use Rattle.ranged.specs.Done.{Tells}
 use Rattle.ranged.proofs.Rows.{tells-setting}
-use borrow.Author.Rules.{rules}
 use Rattle.ranged.proofs.read_setting.Goals as goal
 
 pub put_setting-requires : goal.put_setting-requires

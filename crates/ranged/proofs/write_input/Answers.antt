@@ -1,7 +1,6 @@
 -- `write_input`: in range it is stored, out of range nothing is.
 use native.Mathlib.Omega.{arith}
 use mathlib.Core.Path.{refl, sym, ◌∙◌}
-use mathlib.Core.Logic.{⊎_elim}
 use lib.ListN.{length}
 use Rattle.record.specs.Layout.{InputBytes, at_inputs}
 use Rattle.record.proofs.InPlaceLaws.{sound-at}
@@ -10,7 +9,6 @@ use Rattle.command.specs.Tables.{span_of, range_of}
 use Rattle.command.proofs.Keep.{counted-span}
 use Rattle.command.proofs.Admitted.{set-input-channel}
 use Rattle.ranged.proofs.Rows.{missed-input, inputs}
-use borrow.Author.Rules.{rules}
 use Rattle.ranged.proofs.write_input.Goals as goal
 
 pub input_range-range-requires : goal.input_range-range-requires

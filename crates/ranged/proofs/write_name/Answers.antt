@@ -1,7 +1,5 @@
 -- `write_name`: in range it is stored, out of range nothing is.
-use native.Mathlib.Omega.{arith}
 use mathlib.Core.Path.{refl, sym, ◌∙◌}
-use mathlib.Core.Logic.{⊎_elim}
 use lib.ListN.{length}
 use Rattle.record.specs.Layout.{NamePart, at_name_length}
 use Rattle.record.proofs.InPlaceLaws.{sound-at}
@@ -9,7 +7,6 @@ use Rattle.command.specs.declared.Command.TheVariants.{SetName}
 use Rattle.command.specs.Tables.{span_of}
 use Rattle.command.proofs.Keep.{counted-span}
 use Rattle.ranged.proofs.Rows.{missed-name, names}
-use borrow.Author.Rules.{rules}
 use Rattle.ranged.proofs.write_name.Goals as goal
 
 pub returns-in_default : goal.returns-in_default

@@ -1,7 +1,6 @@
 -- `write_output`: in range it is stored, out of range nothing is.
 use native.Mathlib.Omega.{arith}
 use mathlib.Core.Path.{refl, sym, ◌∙◌}
-use mathlib.Core.Logic.{⊎_elim}
 use lib.ListN.{length}
 use Rattle.record.specs.Layout.{OutputByte, at_outputs}
 use Rattle.record.proofs.InPlaceLaws.{sound-at}
@@ -10,7 +9,6 @@ use Rattle.command.specs.Tables.{span_of, range_of}
 use Rattle.command.proofs.Keep.{counted-span}
 use Rattle.command.proofs.Admitted.{output-number}
 use Rattle.ranged.proofs.Rows.{missed-output, outputs}
-use borrow.Author.Rules.{rules}
 use Rattle.ranged.proofs.write_output.Goals as goal
 
 pub output_range-range-requires : goal.output_range-range-requires

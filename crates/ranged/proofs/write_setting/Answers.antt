@@ -1,7 +1,6 @@
 -- `write_setting`: in range the setting that the number sets is stored, out of range nothing is.
 use native.Mathlib.Omega.{arith}
 use mathlib.Core.Path.{◌≡◌, sym, subst, ◌∙◌}
-use mathlib.Core.Logic.{⊎_elim}
 use lib.ListN.{length}
 use Rattle.record.specs.declared.Setting.{Setting}
 use Rattle.record.specs.Settings.{sheet_of, setting_width}
@@ -13,7 +12,6 @@ use Rattle.table.proofs.TouchedLaws.{sets-one}
 use Rattle.ranged.specs.declared.Done.TheVariants.{Told, Missed}
 use Rattle.ranged.specs.Done.{Stores}
 use Rattle.ranged.proofs.Rows.{missed-setting, sets-setting}
-use borrow.Author.Rules.{rules}
 use Rattle.ranged.proofs.write_setting.Goals as goal
 
 pub setting_range-range-requires : goal.setting_range-range-requires

@@ -3,7 +3,6 @@ use native.Mathlib.Omega.{arith}
 use Rattle.parts.proofs.Stores.{factory-stores}
 use lib.ListN.{length-set}
 use Rattle.record.specs.Layout.{at_name_length}
-use borrow.Author.Rules.{rules}
 use Rattle.parts.proofs.fresh.write_factory.Goals as goal
 
 -- ?? slice-aggregate-put-in-2 : tie.Need-slice-aggregate-put-in-2
