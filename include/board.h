@@ -202,9 +202,9 @@ struct board_reading board_read(const uint8_t *capture, size_t capture_len, uint
  * Threads. The archive keeps nothing between calls. Calls on different records may run at once, also in an
  * interrupt; two calls on the same record, or with the same output or list, may not.
  *
- * The archive is x86-64 code for the System V calling convention, position independent, for processors of
- * the level x86-64-v2 (up to SSE4.2) and later ones. It calls memset and nothing else, takes byte buffers at
- * any alignment, and was measured to use at most 832 bytes of stack (docs/PERFORMANCE.md; reserve 1,024).
+ * The archive is x86-64 code for the System V calling convention (SSE2, position independent). It calls
+ * memset and nothing else, takes byte buffers at any alignment, and was measured to use at most 840
+ * bytes of stack (docs/PERFORMANCE.md; reserve 1,024).
  *
  * Another controller. The kit compiles for x86-64 alone. Elsewhere there are two ways, neither proved:
  * compile second/second.c, the same board in plain C11 over the same record, which is compared with the
