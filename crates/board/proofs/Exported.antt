@@ -1,4 +1,4 @@
--- The contracts of the exported calls as they are made from the source: to be read beside the theorems.
+-- The contracts of the calls as they are made from the source: to be read beside the theorems.
 use Prim.Native.Nat.{ℕ}
 use mathlib.Core.Path.{◌≡◌, refl, sym, ◌∙◌, subst}
 use mathlib.Core.List.{List, []}

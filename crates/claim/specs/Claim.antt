@@ -15,7 +15,7 @@ use Rattle.demands.specs.Premise.{ComparedExactly}
 use Rattle.demands.specs.Secrecy.{OneCall, NothingTold, NothingToldUsedUp, PremiseMet, PremiseNeeded}
 
 pub record Claim : Type 1 where
-  -- the contracts as they are exported, and that each allows one outcome
+  -- the contracts as they are made from the source, and that each allows one outcome
   pub exported : AllExported
   pub unique : Unique
   -- 1: every call ends properly, and says where a record is bad
