@@ -2,12 +2,6 @@
 use Rattle.data.proofs.Data.{answers-cut, answers-whole}
 use Rattle.data.proofs.put_model.Goals as goal
 
--- ?? part-put-few-start : tie.Need-slice-bounds-put-few-start
--- ?? part-put-few-start c = search rules
-
--- ?? part-put-few-end : tie.Need-slice-bounds-put-few-end
--- ?? part-put-few-end c = search rules
-
 pub returns-then-end-most : goal.returns-then-end-most
 returns-then-end-most c =
     let a = c.args in

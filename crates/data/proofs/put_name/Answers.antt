@@ -4,12 +4,6 @@ use Rattle.record.specs.Layout.{at_name_length}
 use Rattle.data.proofs.Data.{answers-name}
 use Rattle.data.proofs.put_name.Goals as goal
 
--- ?? part-put-few-start : tie.Need-slice-bounds-put-few-start
--- ?? part-put-few-start c = search rules
-
--- ?? part-put-few-end : tie.Need-slice-bounds-put-few-end
--- ?? part-put-few-end c = search rules
-
 pub returns : goal.returns
 returns c =
     let a = c.args in

@@ -10,6 +10,7 @@ use Rattle.command.specs.Effects.{effect_of}
 use Rattle.ranged.specs.declared.Done.TheVariants.{Told}
 use Rattle.effect.proofs.Arms.{carried, told, left-reads}
 use Rattle.effect.proofs.Rows.{sound-name, opens, closes, unnames, stops, starts, tells-name, tells-lock, tells-model}
+use borrow.Author.Rules.{rules}
 use Rattle.effect.proofs.bare.Goals as goal
 
 pub open_mode-requires : goal.open_mode-requires
@@ -38,7 +39,7 @@ start_sending-requires c = sound-at FlagByte at_flags refl refl _ c.requires.sou
 
 pub read_setting-requires : goal.read_setting-requires
 read_setting-requires c =
-    let q = left-reads c.args.number c.requires.calls c.in_default.in_default-own.rest in
+    let q = left-reads c.args.number c.requires.calls (search rules) in
     record { sound = c.requires.sound; read = (q.0, q.2); frame_most_in_bounds = c.requires.frame_most_in_bounds }
 
 pub returns-in-224 : goal.returns-in-224
@@ -84,5 +85,5 @@ returns-in-36 c =
 pub returns-in_default : goal.returns-in_default
 unfolding effect_of
 returns-in_default c =
-    let q = left-reads c.args.number c.requires.calls c.in_default.in_default-own.rest in
+    let q = left-reads c.args.number c.requires.calls (search rules) in
     carried c.args.number (Read q.0) q.1 c.args.rec.now [] c.args.out.now c.args.at c.read_setting.result c.args.rec.now c.read_setting.new.out (told (Read q.0) c.args.rec.now [] c.args.out.now c.args.at (λ r. refl) c.read_setting.result c.read_setting.new.out (c.read_setting.ensures q.0 q.2))

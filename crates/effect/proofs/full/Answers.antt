@@ -10,6 +10,7 @@ use Rattle.command.proofs.Keep.{counted-span}
 use Rattle.ranged.specs.declared.Done.TheVariants.{Told}
 use Rattle.effect.proofs.Arms.{counted, carried, stored, told, left-sets}
 use Rattle.effect.proofs.Rows.{unlocks, models}
+use borrow.Author.Rules.{rules}
 use Rattle.effect.proofs.full.Goals as goal
 
 pub write_name-requires : goal.write_name-requires
@@ -41,7 +42,7 @@ read_pair-requires c = record { sound = c.requires.sound; p_value = counted c.ar
 
 pub write_setting-requires : goal.write_setting-requires
 write_setting-requires c =
-    let q = left-sets c.args.number (length c.args.p.now) c.requires.in_bounds.0 c.requires.in_bounds.1 c.in_default.in_default-own.rest in
+    let q = left-sets c.args.number (length c.args.p.now) c.requires.in_bounds.0 c.requires.in_bounds.1 (search rules) in
     record { sound = c.requires.sound; set = (q.0, q.2, q.3) }
 
 pub returns-in-233 : goal.returns-in-233
@@ -82,5 +83,5 @@ returns-in-83 c =
 pub returns-in_default : goal.returns-in_default
 unfolding data_of
 returns-in_default c =
-    let q = left-sets c.args.number (length c.args.p.now) c.requires.in_bounds.0 c.requires.in_bounds.1 c.in_default.in_default-own.rest in
+    let q = left-sets c.args.number (length c.args.p.now) c.requires.in_bounds.0 c.requires.in_bounds.1 (search rules) in
     carried c.args.number (Set q.0) q.1 c.args.rec.now c.args.p.now c.args.out.now c.args.at c.write_setting.result c.write_setting.new.rec c.args.out.now (stored (Set q.0) c.args.rec.now c.args.p.now c.args.out.now c.args.at refl c.write_setting.result c.write_setting.new.rec (c.write_setting.ensures q.0 q.2))

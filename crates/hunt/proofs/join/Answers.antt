@@ -4,12 +4,6 @@ use Rattle.hunt.proofs.JoinLaws.{reach-long, held-long, joined_is}
 use mathlib.Core.Path.{sym}
 use Rattle.hunt.proofs.join.Goals as goal
 
--- ?? part-put-few-start : tie.Need-slice-bounds-put-few-start
--- ?? part-put-few-start c = search rules
-
--- ?? part-put-few-end : tie.Need-slice-bounds-put-few-end
--- ?? part-put-few-end c = search rules
-
 pub slice_bounds-put_few-end-2 : goal.slice_bounds-put_few-end-2
 slice_bounds-put_few-end-2 c = sym (reach-long _ c.args.input.now c.reach-n.ensures)
 

@@ -13,12 +13,6 @@ overflow_add-at c =
     let whole : c.args.at + model_room ≤ length c.args.rec.now = reaches ModelPart c.args.at c.args.rec.now c.requires.sound_at in
     omega (arith, whole)
 
--- ?? part-put-part-start : tie.Need-slice-bounds-put-part-start
--- ?? part-put-part-start c = search rules
-
--- ?? part-put-part-end : tie.Need-slice-bounds-put-part-end
--- ?? part-put-part-end c = search rules
-
 pub put_part-requires : goal.put_part-requires
 put_part-requires c =
     let whole : c.args.at + model_room ≤ length c.args.rec.now = reaches ModelPart c.args.at c.args.rec.now c.requires.sound_at in

@@ -5,9 +5,6 @@ use lib.ListN.{length-set}
 use Rattle.record.specs.Layout.{at_name_length}
 use Rattle.parts.proofs.fresh.write_factory.Goals as goal
 
--- ?? slice-aggregate-put-in-2 : tie.Need-slice-aggregate-put-in-2
--- ?? slice-aggregate-put-in-2 c = search rules
-
 pub put_in-requires-2 : goal.put_in-requires-2
 put_in-requires-2 c = simp length-set (omega (arith, c.put_in.auto, c.clear.auto))
 
