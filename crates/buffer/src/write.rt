@@ -7,12 +7,9 @@ pub fn put_in(buffer: &mut [u8], at: usize, part: &[u8]) -> usize
     requires { at + length part.now ≤ length buffer.old }
     ensures { (result ≡ at + length part.now) × (buffer.new ≡ put buffer.old at part.now) }
 {
-    let mut i = 0;
-    while i < part.len() {
-        buffer[at + i] = part[i];
-        i += 1;
-    }
-    at + i
+    let end = at + part.len();
+    buffer[at..end].copy_from_slice(part);
+    end
 }
 
 // Writes zeros from a place up to another.
@@ -20,10 +17,5 @@ pub fn clear(buffer: &mut [u8], at: usize, end: usize)
     requires { (at ≤ end) × (end ≤ length buffer.old) }
     ensures { buffer.new ≡ put buffer.old at (replicate (end - at) 0) }
 {
-    let n = end - at;
-    let mut i = 0;
-    while i < n {
-        buffer[at + i] = 0;
-        i += 1;
-    }
+    buffer[at..end].fill(0);
 }

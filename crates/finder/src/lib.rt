@@ -7,7 +7,7 @@ ghost use Rattle.wire.specs.Serial.{heads_of, Noise};
 ghost use Rattle.finder.specs.Finder.{no_aa, Reaches, Finds};
 
 use buffer::heads::announced_by;
-use wire::{Announced, Line};
+use wire::Line;
 
 // What the finder stopped at: a frame with so many parameters, a broken head, or nothing that can be decided.
 #[derive(Drop)]
@@ -89,7 +89,7 @@ pub fn find(line: Line, s: &[u8], from: usize, until: usize) -> Found
         if s.len() <= next {
             break 'hunt;
         }
-        let Announced::Params(n) = announced_by(line, s[next]) else {
+        let Some(n) = announced_by(line, s[next]) else {
             at += 1;
             continue 'hunt;
         };

@@ -12,7 +12,7 @@ use Rattle.wire.specs.Frames.{waits}
 use Rattle.wire.specs.Serial.{is_head, serial}
 use Rattle.wire.specs.Heads.{announced_of}
 use Rattle.wire.specs.declared.Line.TheVariants.{Board}
-use Rattle.wire.specs.declared.Announced.TheVariants.{Params, NoFrame}
+use Rattle.std.specs.declared.option.Option.TheVariants.{Some, None}
 use Rattle.wire.proofs.HeadLaws.{no-head, some-head}
 use Rattle.wire.proofs.SerialLaws.{waits-none, waits-not, waits_one, waits-head}
 
@@ -64,8 +64,8 @@ module _ (s : List ℕ) (at n : ℕ) (within : at + n ≤ length s) where
             above (suc zero) h k = absurd (k refl)
             above (suc (suc m)) h k = omega arith
 
-        pub headless : announced_of Board b ≡ NoFrame → false ≡ waits serial (take n (drop at s))
+        pub headless : announced_of Board b ≡ None → false ≡ waits serial (take n (drop at s))
         headless e = sym (ap (λ (t : Bool). t && ltb n (4 + b % 16)) (no-head b e)) ∙ head
 
-        pub headed : (k : ℕ) → announced_of Board b ≡ Params k → ltb n (4 + k) ≡ waits serial (take n (drop at s))
+        pub headed : (k : ℕ) → announced_of Board b ≡ Some k → ltb n (4 + k) ≡ waits serial (take n (drop at s))
         headed k e = let w = some-head b k e in sym (ap₂ (λ (t : Bool) (j : ℕ). t && ltb n (4 + j)) w.0 w.1) ∙ head

@@ -27,7 +27,7 @@ use record::places::{
     AT_TRIES, AT_VERSION, FILTERS, FOUR_BITS, MODEL_ROOM, NAME_ROOM, PAIRS, PENDING_ROOM, READING,
     RECORD_SIZE, SIZE_FIELD, TRIES_MOST, VERSION,
 };
-use wire::{Announced, Line};
+use wire::Line;
 
 fn head_fine(s: &[u8]) -> bool
     requires { at_code ≤ length s.now }
@@ -121,7 +121,7 @@ fn waiting_fine(s: &[u8], at: usize, n: usize) -> bool
     if n == 1 {
         return true;
     }
-    let Announced::Params(k) = announced_by(Line::Board, s[at + 1]) else {
+    let Some(k) = announced_by(Line::Board, s[at + 1]) else {
         return false;
     };
     n < 4 + k

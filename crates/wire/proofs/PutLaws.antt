@@ -1,13 +1,14 @@
 -- Writing into a buffer: nothing, one byte more, a part behind a part, single stores.
-use Prim.Native.Nat.{ℕ, zero, suc, ◌+◌, ◌≤◌, ◌<◌}
+use Prim.Native.Nat.{ℕ, suc, ◌+◌, ◌≤◌, ◌<◌}
 use mathlib.Core.Path.{◌≡◌, refl, sym, ap, ◌∙◌}
 use mathlib.Core.Logic.{⊎_elim}
 use mathlib.Core.List.{List, [], ◌∷◌, ◌++◌, append_assoc}
 use native.Mathlib.Nat.{zero-add, add-zero, add_assoc}
-use native.Mathlib.Numerals.{add-one, towards_suc}
+use native.Mathlib.Numerals.{towards_suc}
 use native.Mathlib.Omega.{arith}
-use lib.ListN.{length, get_or, take, drop, set, replicate, length-append, length-drop, length-replicate, take-append-drop}
-use lib.Seq.{sets, sets-eq, drop-cons, take-suc, take_at, take-set-lt, drop-set-lt, drop-append-add, drop-drop, set_at, set-append_left, length-take-le}
+use lib.ListN.{length, get_or, take, drop, set, length-append, length-drop, take-append-drop}
+use lib.Seq.{sets, sets-eq, drop-cons, take_at, take-set-lt, drop-set-lt, drop-append-add, drop-drop, set_at, set-append_left, length-take-le}
+use borrow.Rule.Slice.PartMut.{put_mid}
 use Rattle.wire.specs.Numbers.{Narrow, bytes_at, put}
 
 pub put-nil : (d : List ℕ) (at : ℕ) → put d at [] ≡ d
@@ -45,22 +46,10 @@ module _ (d : List ℕ) (at : ℕ) (s : List ℕ) where
       ap (λ (j : ℕ). drop (j + length t) ((take at d ++ s) ++ r)) (sym n) ∙ drop-append-add (take at d ++ s) r (length t) ∙ drop-drop (length t) (at + length s) d in
       rw (e, take_at (take at d ++ s) r (at + length s) n, f, length-append s t, ← add_assoc at (length s) (length t)) (simp append_assoc)
 
--- one byte more of a copy
-pub put-more : (d : List ℕ) (at : ℕ) (s : List ℕ) (j : ℕ) → at + length s ≤ length d → j < length s → set (put d at (take j s)) (at + j) (get_or s j 0) ≡ put d at (take (j + 1) s)
-put-more d at s j h k =
-    let n : length (take j s) ≡ j = length-take-le j s (omega arith) in
-    rw (add-one j, take-suc s j 0 k) (ap (λ (i : ℕ). set (put d at (take j s)) (at + i) (get_or s j 0)) (sym n) ∙ put_byte d at (take j s) (get_or s j 0) (omega arith))
-
-zeros-more : (i : ℕ) → ◌≡◌ {A = List ℕ} (replicate i 0 ++ 0 ∷ []) (replicate (suc i) 0)
-zeros-more zero = refl
-zeros-more (suc i) = ap (λ (l : List ℕ). 0 ∷ l) (zeros-more i)
-
--- one zero more
-pub put-zeros : (d : List ℕ) (at i : ℕ) → at + i < length d → set (put d at (replicate i 0)) (at + i) 0 ≡ put d at (replicate (i + 1) 0)
-put-zeros d at i h =
-    let z : List ℕ = replicate i 0 in
-    let n : length z ≡ i = length-replicate i 0 in
-    rw (add-one i, ← zeros-more i) (ap (λ (j : ℕ). set (put d at (replicate i 0)) (at + j) 0) (sym n) ∙ put_byte d at (replicate i 0) 0 (omega arith))
+-- a part of the buffer overwritten, as a write to a slice of it leaves
+pub put-mid : (d : List ℕ) (at n : ℕ) (s : List ℕ) → n ≡ length s → put_mid at n d s ≡ put d at s
+unfolding put
+put-mid d at n s e = rw (e, drop-drop (length s) at d) refl
 
 -- ---- single stores
 

@@ -1,16 +1,27 @@
 -- Lists with zeros behind them, and the bytes up to the first zero.
-use Prim.Native.Nat.{ℕ, zero, suc, ◌-◌, ◌≤◌}
+use Prim.Native.Nat.{ℕ, zero, suc, ◌+◌, ◌-◌, ◌≤◌, ◌<◌}
 use mathlib.Core.Path.{◌≡◌, refl, sym, ap, ap₂, ◌∙◌}
-use mathlib.Core.Bool.{true, and-eq-true_iff}
+use mathlib.Core.Logic.{◌≢◌}
+use mathlib.Core.Bool.{Bool, true, ◌&&◌, and-eq-true_iff}
 use mathlib.Core.List.{List, [], ◌∷◌, ◌++◌}
 use native.Mathlib.Omega.{arith}
 use lib.ListN.{length, get_or, take, drop, replicate, length-append, length-replicate, take-append-drop}
 use lib.Seq.{take-append_seam, drop-append_seam}
 use lib.Dec.{eqb}
 use borrow.Author.Tests.{eqb-true}
+use Rattle.std.proofs.Common.{Option}
+use Rattle.std.proofs.lemmas.Iterator.{index_from_first}
+use Rattle.std.specs.List.{list_all, AllWithin, HoldsAt}
+use Rattle.std.specs.Option.{MatchOption, unwrap_or}
 use Rattle.wire.specs.Numbers.{Bytes, bytes_at}
 use Rattle.wire.specs.Zeros.{all_zero, zeros_behind, before_zero}
 use Rattle.wire.proofs.NumberLaws.{bytes_take}
+
+-- the definition as `all` computes it
+pub zero-list : (l : List ℕ) → list_all (λ b. eqb b 0) l ≡ all_zero l
+unfolding all_zero
+zero-list [] = refl
+zero-list (b ∷ l) = ap (λ (t : Bool). eqb b 0 && t) (zero-list l)
 
 -- ---- zeros behind a list
 
@@ -50,6 +61,18 @@ pub pad-take : (n : ℕ) (l : List ℕ) → all_zero (drop n l) ≡ true → byt
 pad-take n l e = rw (take-append-drop n l) at (padded-by (take n l) (drop n l) e)
 
 -- ---- up to the first zero
+
+-- the definition as `position` computes it
+pub cut-first : (l : List ℕ) (r : Option ℕ) → MatchOption r (AllWithin (λ b. b ≢ 0) l 0 (length l)) (λ i. (i < length l) × HoldsAt (λ b. b ≡ 0) l i × AllWithin (λ b. b ≢ 0) l 0 i) → length (before_zero l) ≡ unwrap_or r (length l)
+unfolding before_zero
+cut-first = index_from_first (λ l. length (before_zero l)) (λ b. b ≡ 0) (λ b. b ≢ 0) refl hit miss
+  where
+    hit : (b : ℕ) (l : List ℕ) → b ≡ 0 → length (before_zero (b ∷ l)) ≡ 0
+    hit b l e = rw e refl
+
+    miss : (b : ℕ) (l : List ℕ) → b ≢ 0 → length (before_zero (b ∷ l)) ≡ length (before_zero l) + 1
+    miss zero l h = absurd (h refl)
+    miss (suc b) l h = omega arith
 
 pub cut-take : (l : List ℕ) → take (length (before_zero l)) l ≡ before_zero l
 unfolding before_zero

@@ -17,14 +17,8 @@ pub enum Line {
     Board,
 }
 
-// What the byte behind an AA announces: a frame with so many parameters, or none.
-#[derive(Clone, Copy)]
-pub enum Announced {
-    Params(usize),
-    NoFrame,
-}
-
 // What the front of a stream says of a frame's size: none begins here, more bytes are needed to say, 4 + n bytes.
+// Three outcomes, of which none is a failure, so no `Option` and no `Result`.
 #[derive(Clone, Copy)]
 pub enum Size {
     NoHead,

@@ -5,7 +5,7 @@ use mathlib.Core.Path.{◌≡◌, sym}
 use mathlib.Core.List.{List}
 use lib.ListN.{length, get_or}
 use Rattle.wire.specs.declared.Line.{Line}
-use Rattle.wire.specs.declared.Announced.TheVariants.{Params}
+use Rattle.std.specs.declared.option.Option.TheVariants.{Some}
 use Rattle.wire.specs.Heads.{announced_of}
 use Rattle.wire.proofs.Stretches.{stretch-one}
 use Rattle.wire.proofs.HeadLaws.{params-head, none-head, params-few}
@@ -13,7 +13,7 @@ use Rattle.finder.proofs.FinderLaws.{passed-noise, look-alone, look-headless, Ca
 use Rattle.finder.proofs.find.Goals as goal
 
 -- an AA and a byte that announces n parameters
-candidate : (k : Line) (l : List ℕ) (at n : ℕ) → get_or l at 0 ≡ 0xAA → at + 1 < length l → Params n ≡ announced_of k (get_or l (at + 1) 0) → Candidate k l at n
+candidate : (k : Line) (l : List ℕ) (at n : ℕ) → get_or l at 0 ≡ 0xAA → at + 1 < length l → Some n ≡ announced_of k (get_or l (at + 1) 0) → Candidate k l at n
 candidate k l at n aa two e = record { aa = aa; two = two; head = params-head k (get_or l (at + 1) 0) n (sym e) }
 
 pub hunt-preserved-then-s-at : goal.hunt-preserved-then-s-at
@@ -32,7 +32,7 @@ hunt-preserved c =
 
 pub overflow_add-last-in-hunt : goal.overflow_add-last-in-hunt
 overflow_add-last-in-hunt c =
-    omega (arith, params-few c.args.line (get_or c.args.s.now (c.hunt.at + 1) 0) c.in-Params.n (sym c.in-Params.ensures))
+    omega (arith, params-few c.args.line (get_or c.args.s.now (c.hunt.at + 1) 0) c.in-Some.n (sym c.in-Some.ensures))
 
 pub returns-after-hunt : goal.returns-after-hunt
 returns-after-hunt c =
@@ -47,15 +47,15 @@ returns-then-s-next c =
 pub returns-then-s-last : goal.returns-then-s-last
 returns-then-s-last c =
     let h = c.hunt.invariant in
-    let d = candidate c.args.line c.args.s.now c.hunt.at c.in-Params.n c.if-s-at.false c.if-s-next.false c.in-Params.ensures in
+    let d = candidate c.args.line c.args.s.now c.hunt.at c.in-Some.n c.if-s-at.false c.if-s-next.false c.in-Some.ensures in
     finds-waiting c.args.line _ _ _ _ _ h.2 h.0 c.hunt-test.true (scan-waits c.args.line _ _ _ d (omega (arith, c.if-s-last.true)))
 
 pub returns-then-s-place : goal.returns-then-s-place
 returns-then-s-place c =
-    let d = candidate c.args.line c.args.s.now c.hunt.at c.in-Params.n c.if-s-at.false c.if-s-next.false c.in-Params.ensures in
+    let d = candidate c.args.line c.args.s.now c.hunt.at c.in-Some.n c.if-s-at.false c.if-s-next.false c.in-Some.ensures in
     record { passed = c.hunt.invariant.0; stands = (c.hunt-test.true, scan-torn c.args.line _ _ _ d c.loop-place.place c.if-place-last.false c.if-s-last.false c.if-s-place.true) }
 
 pub returns-else-s-place : goal.returns-else-s-place
 returns-else-s-place c =
-    let d = candidate c.args.line c.args.s.now c.hunt.at c.in-Params.n c.if-s-at.false c.if-s-next.false c.in-Params.ensures in
+    let d = candidate c.args.line c.args.s.now c.hunt.at c.in-Some.n c.if-s-at.false c.if-s-next.false c.in-Some.ensures in
     record { passed = c.hunt.invariant.0; stands = (c.hunt-test.true, scan-frame c.args.line _ _ _ d c.loop-place.place c.if-place-last.false c.if-s-last.false c.if-s-place.false) }

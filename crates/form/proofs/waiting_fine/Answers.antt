@@ -21,7 +21,7 @@ pub returns-in_default : goal.returns-in_default
 returns-in_default c = headless c.args.s.now c.args.at c.args.n c.requires c.if-n-eq0.false c.if-s-at.false c.if-n-eq1.false (sym c.announced_by.ensures ∙ c.in_default.is)
 
 pub overflow_add-result : goal.overflow_add-result
-overflow_add-result c = omega (arith, params-few Board (get_or c.args.s.now (c.args.at + 1) 0) c.in-Params.k (sym c.announced_by.ensures ∙ c.in-Params.is))
+overflow_add-result c = omega (arith, params-few Board (get_or c.args.s.now (c.args.at + 1) 0) c.in-Some.k (sym c.announced_by.ensures ∙ c.in-Some.is))
 
 pub returns : goal.returns
-returns c = headed c.args.s.now c.args.at c.args.n c.requires c.if-n-eq0.false c.if-s-at.false c.if-n-eq1.false _ (sym c.announced_by.ensures ∙ c.in-Params.is)
+returns c = headed c.args.s.now c.args.at c.args.n c.requires c.if-n-eq0.false c.if-s-at.false c.if-n-eq1.false _ (sym c.announced_by.ensures ∙ c.in-Some.is)

@@ -1,26 +1,18 @@
--- `first_zero`: the place found is that of the first zero, or the end.
-use native.Mathlib.Omega.{arith}
-use mathlib.Core.Path.{refl}
-use Rattle.wire.proofs.ScanLaws.{first-skip, first-hit, first-end}
+-- `first_zero`: `position` counts the bytes before the first zero.
+use Rattle.std.proofs.Common.{rules, ℕ, List, length, take, drop, ◌≡◌, ◌+◌, ◌-◌, ◌∙◌, ap, sym, arith}
+use borrow.Author.Tests.{tests}
+use Rattle.std.proofs.lemmas.Iterator.{YieldsList-from_slice, IsFirst-from_position}
+use Rattle.std.proofs.lemmas.List.Edits.{length-between}
+use Rattle.std.specs.Option.{unwrap_or}
+use Rattle.wire.specs.Zeros.{before_zero}
+use Rattle.wire.proofs.ZeroLaws.{cut-first, cut-le}
+use Rattle.std.specs.Prelude.{◌≢◌}
 use Rattle.numbers.proofs.zeros.first_zero.Goals as goal
-
-pub loop-at-init : goal.loop-at-init
-loop-at-init c = (omega arith, refl)
-
-pub returns-then-s-at-eq0 : goal.returns-then-s-at-eq0
-returns-then-s-at-eq0 c =
-    let l = c.loop-at in
-    let a = c.args in
-    omega (arith, l.invariant.1, first-hit a.s.now l.at a.to (omega arith) (omega arith) c.if-s-at-eq0.true)
-
-pub loop-at-preserved : goal.loop-at-preserved
-loop-at-preserved c =
-    let l = c.loop-at in
-    let a = c.args in
-    omega (arith, l.invariant.1, first-skip a.s.now l.at a.to (omega arith) (omega arith) c.if-s-at-eq0.false)
 
 pub returns : goal.returns
 returns c =
-    let l = c.loop-at in
-    let a = c.args in
-    omega (arith, l.invariant.1, first-end a.s.now l.at a.to (omega arith))
+    let part : List ℕ = take (c.args.to - c.args.from) (drop c.args.from c.args.s.now) in
+    let e = cut-first part c.position.result (IsFirst-from_position _ _ _ (λ b. b ≡ 0) (λ b. b ≢ 0) c.position.ensures.ran (YieldsList-from_slice part cc) (λ x q k. search (rules, tests)) (λ x q k. search (rules, tests))) in
+    let n : length part ≡ c.args.to - c.args.from = length-between c.args.s.now c.args.from c.args.to (omega arith) in
+    let f : c.unwrap_or.result ≡ length (before_zero part) = c.unwrap_or.ensures ∙ sym e in
+    (ap (λ (k : ℕ). c.args.from + k) f, omega (arith, f, n, cut-le part))
