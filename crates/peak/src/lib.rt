@@ -1,7 +1,7 @@
 // Peaks: the greatest and the smallest value of a channel. Values are compared by their patterns as whole numbers, and nothing is computed in floats.
 #![tactic(auto)]
 
-ghost use Rattle.std.specs.Prelude.{◌≡◌, ◌+◌, ◌%◌, max, true, not, T, if◌then◌else◌, is_nan, nat_le};
+ghost use Rattle.std.specs.Prelude.{◌≡◌, ◌+◌, ◌%◌, max, true, not, T, is_nan, nat_le};
 ghost use Rattle.peak.specs.Pairs.{finite, less};
 ghost use Rattle.peak.specs.Floats.{float_of, bits_of, renewed, is_raised, is_lowered};
 
@@ -19,8 +19,7 @@ pub const INFINITY: u32 = 0x7F800000;
 pub fn reach(most: u32, x: u32) -> u32
     ensures { result ≡ max most (x % 0x80000000) }
 {
-    let size = x % 0x80000000;
-    if most < size { size } else { most }
+    most.max(x % 0x80000000)
 }
 
 // The float of a finite pattern.
@@ -36,7 +35,7 @@ fn bits_of(f: f32) -> u32
     requires { T (not (is_nan f)) }
     ensures { result ≡ bits_of f }
 {
-    f32::to_bits(f)
+    f.to_bits()
 }
 
 // Whether a pattern has its sign bit, so that it lies no nearer to 0 than to 2 ^ 32: a test of the bit itself would make the compiler read the pattern byte by byte.
@@ -51,10 +50,11 @@ fn negative(x: u32) -> bool
 fn turned(x: u32) -> u32
     ensures { result ≡ (x + 0x80000000) % 0x100000000 }
 {
-    std::num::wrapping_add_u32(x, 0x80000000)
+    x.wrapping_add(0x80000000)
 }
 
-// Whether x is strictly greater than y: of patterns below zero the smaller one is, and neither of the two zeros.
+// Whether x is strictly greater than y: of patterns below zero the smaller one is, and neither of the two zeros. No PartialOrd: no float is compared.
+#[tactic(auto, unfolding(crate::specs::Pairs::key))]
 pub fn above(x: u32, y: u32) -> bool
     ensures { result ≡ less y x }
 {
@@ -70,48 +70,23 @@ pub fn above(x: u32, y: u32) -> bool
     false
 }
 
-// Whether x is strictly smaller than y.
-fn below(x: u32, y: u32) -> bool
-    ensures { result ≡ less x y }
-{
-    if negative(x) {
-        if y < x {
-            if x == 0x80000000 {
-                return y != 0;
-            }
-            return true;
-        }
-        return false;
-    }
-    turned(x) < turned(y)
-}
-
-fn chosen(taken: bool, x: f32, kept: f32) -> f32
-    ensures { result ≡ (if taken then x else kept) }
-{
-    if taken { x } else { kept }
-}
-
 // A pair with a reading in the place of those of its values that it replaces.
 pub fn updated(p: Peak, x: u32, raised: bool, lowered: bool) -> Peak
     requires { finite x ≡ true }
     ensures { result ≡ renewed p x raised lowered }
 {
     let value = finite_float(x);
-    let greatest = chosen(raised, value, p.greatest);
-    let smallest = chosen(lowered, value, p.smallest);
+    let greatest = if raised { value } else { p.greatest };
+    let smallest = if lowered { value } else { p.smallest };
     Peak { greatest, smallest }
 }
 
-// Whether a reading becomes the greatest value: the first one does, later a strictly greater one.
+// Whether a reading becomes the greatest value: the first one does, later a strictly greater one. `seen` is one bit of the record for all its pairs, so none of them is an Option.
 pub fn raises(seen: bool, p: Peak, x: u32) -> bool
     requires { T (not (is_nan p.greatest)) }
     ensures { result ≡ is_raised seen p x }
 {
-    if seen {
-        return above(x, bits_of(p.greatest));
-    }
-    true
+    !seen || above(x, bits_of(p.greatest))
 }
 
 // Whether a reading becomes the smallest value.
@@ -119,8 +94,5 @@ pub fn lowers(seen: bool, p: Peak, x: u32) -> bool
     requires { T (not (is_nan p.smallest)) }
     ensures { result ≡ is_lowered seen p x }
 {
-    if seen {
-        return below(x, bits_of(p.smallest));
-    }
-    true
+    !seen || above(bits_of(p.smallest), x)
 }

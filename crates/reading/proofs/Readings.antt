@@ -11,6 +11,7 @@ use lib.Seq.{sets, get_or-set_same, get_or-set_other, drop-drop, length-take-le,
 use lib.Dec.{ltb, eqb}
 use lib.Bits.{bit_or, or_lt}
 use borrow.Author.Tests.{eqb-true, eqb-false}
+use Rattle.std.proofs.lemmas.List.FromFn.{fill_by_all}
 use Rattle.wire.specs.Numbers.{Bytes, word_at, bytes4, bytes_at, put}
 use Rattle.wire.proofs.NumberLaws.{part-is, part-part, length_part}
 use Rattle.wire.proofs.PutLaws.{put-nil, put-put, length-put, put-sets}
@@ -73,9 +74,12 @@ peak-of n s at k h = mapped (pairs_at n s at) k (rw (pairs-many n s at) h) ∙ a
 six-pairs : (s : List ℕ) (at : ℕ) → pairs_at channels s at ≡ pair_at s at ∷ pair_at s (at + 8) ∷ pair_at s (at + 16) ∷ pair_at s (at + 24) ∷ pair_at s (at + 32) ∷ pair_at s (at + 40) ∷ []
 six-pairs s at = simp add_assoc
 
-pub six-decoded : (s : List ℕ) (at : ℕ) → let peak : ℕ → Peak = λ k. peak_of (pair_at s k) in
-    record { peaks = peak at ∷ peak (at + 8) ∷ peak (at + 16) ∷ peak (at + 24) ∷ peak (at + 32) ∷ peak (at + 40) ∷ [] } ≡ decoded_at at s
-six-decoded s at = ap (λ (ps : List Pair). record { peaks = map peak_of ps }) (sym (six-pairs s at))
+pub six-decoded : (s : List ℕ) (at : ℕ) (ps : List Peak) → let peak : ℕ → Peak = λ k. peak_of (pair_at s (at + k)) in let nth : ℕ → Peak = λ k. get_or ps k no_peak in
+    length ps ≡ channels → nth 0 ≡ peak 0 → nth 1 ≡ peak 8 → nth 2 ≡ peak 16 → nth 3 ≡ peak 24 → nth 4 ≡ peak 32 → nth 5 ≡ peak 40 → record { peaks = ps } ≡ decoded_at at s
+six-decoded s at ps h e₀ e₁ e₂ e₃ e₄ e₅ =
+    ap (λ (qs : List Peak). record { peaks = qs })
+    (fill_by_all (λ k. get_or ps k no_peak) ps channels no_peak h (λ k l. refl)
+    ∙ rw (e₀, e₁, e₂, e₃, e₄, e₅, add-zero at) (ap (map peak_of) (sym (six-pairs s at))))
 
 -- the bytes of one pair more
 bytes-more : (n : ℕ) (ps : List Pair) (i : ℕ) → pairs_bytes (suc n) ps i ≡ pairs_bytes n ps i ++ pair_bytes (get_or ps (i + n) no_pair)
@@ -218,10 +222,6 @@ module _ (n : ℕ) (d sample : List ℕ) (at : ℕ) (reading : Bool) (B : Bytes 
       ∙ one_more k h
 
 -- ---- the record
-
--- the first pair at the place itself
-pub first-there : (at : ℕ) (s : List ℕ) → There at s → (finite (word_at s at) ≡ true) × (finite (word_at s (at + 4)) ≡ true)
-first-there at s t = subst (λ (j : ℕ). (finite (word_at s j) ≡ true) × (finite (word_at s (j + 4)) ≡ true)) (add-zero at) (t.numbers 0 (omega arith))
 
 pub sound-long : (s : List ℕ) → Sound s → length s ≡ record_size
 sound-long s h = ap length h.same ∙ long (record_of s)

@@ -2,11 +2,12 @@
 #![tactic(auto)]
 
 use peak::Peak;
+use record::places::PAIRS;
 
 pub mod peaks;
 
 // What a reading is held against.
 #[derive(Drop)]
 pub struct Decoded {
-    pub peaks: [Peak; 6],
+    pub peaks: [Peak; PAIRS],
 }

@@ -12,31 +12,24 @@ use crate::Decoded;
 use low::{four_at, put_four};
 use numbers::word_at;
 use peak::{INFINITY, Peak, finite_float, lowers, raises, reach, updated};
-use record::places::{AT_FLAGS, AT_PAIRS, READING};
+use record::places::{AT_FLAGS, AT_PAIRS, PAIRS, READING};
+use std::array::from_fn;
 
 // The patterns of a reading, read once: they are looked at again behind stores to the record.
-pub fn values_of(sample: &[u8]) -> [u32; 6]
+pub fn values_of(sample: &[u8]) -> [u32; PAIRS]
     requires { length sample.now ≡ 4 * channels }
     ensures { result ≡ words_at channels sample.now 0 }
 {
-    let a = word_at(sample, 0);
-    let b = word_at(sample, 4);
-    let c = word_at(sample, 8);
-    let d = word_at(sample, 12);
-    let e = word_at(sample, 16);
-    let f = word_at(sample, 20);
-    [a, b, c, d, e, f]
+    from_fn(|k| word_at(sample, 4 * k))
 }
 
 // Whether no value is infinite or no number.
-pub fn finite_values(x: [u32; 6]) -> bool
+pub fn finite_values(x: [u32; PAIRS]) -> bool
     ensures { result ≡ finite_all x }
 {
     let mut most = 0;
-    let mut i = 0;
-    while i < 6 {
-        most = reach(most, x[i]);
-        i += 1;
+    for value in x {
+        most = reach(most, value);
     }
     most < INFINITY
 }
@@ -56,14 +49,8 @@ fn decode(rec: &[u8], at: usize) -> Decoded
     requires { There at rec.now }
     ensures { result ≡ decoded_at at rec.now }
 {
-    let a = peak_at(rec, at);
-    let b = peak_at(rec, at + 8);
-    let c = peak_at(rec, at + 16);
-    let d = peak_at(rec, at + 24);
-    let e = peak_at(rec, at + 32);
-    let f = peak_at(rec, at + 40);
     Decoded {
-        peaks: [a, b, c, d, e, f],
+        peaks: from_fn(|k| peak_at(rec, at + 8 * k)),
     }
 }
 
@@ -78,6 +65,7 @@ fn put_if(taken: bool, rec: &mut [u8], at: usize, sample: &[u8], from: usize)
 }
 
 // One channel: its pair at a place of the record, its value at a place of the sample. What is replaced in the pair is stored, and the pair returned as it is then.
+// Values and sample stay two arguments: comparisons take the one and stores the other, and a struct of both would only be taken apart here.
 fn see(seen: bool, rec: &mut [u8], at: usize, p: Peak, x: u32, sample: &[u8], from: usize) -> Peak
     requires at_in_bounds { (at + 8 ≤ length rec.old) × (from + 4 ≤ length sample.now) }
     requires numbers { Numbers p × (finite x ≡ true) }
@@ -90,21 +78,19 @@ fn see(seen: bool, rec: &mut [u8], at: usize, p: Peak, x: u32, sample: &[u8], fr
     updated(p, x, raised, lowered)
 }
 
-fn see_all(seen: bool, rec: &mut [u8], at: usize, was: Decoded, x: [u32; 6], sample: &[u8])
+fn see_all(seen: bool, rec: &mut [u8], at: usize, was: Decoded, x: [u32; PAIRS], sample: &[u8])
     requires channels_in_bounds { (at + channels * 8 ≤ length rec.old) × (length sample.now ≡ 4 * channels) }
     requires all_numbers { AllNumbers was.peaks × (finite_all x ≡ true) }
     ensures { rec.new ≡ seen_up_to channels seen was.peaks x sample.now rec.old at }
 {
     let mut p = was.peaks;
-    let mut k = 0;
-    while k < 6 {
+    for k in 0..PAIRS {
         p[k] = see(seen, rec, at + 8 * k, p[k], x[k], sample, 4 * k);
-        k += 1;
     }
 }
 
 // Takes a reading of finite values, and returns whether measuring frames are sent.
-pub fn take_reading(rec: &mut [u8], x: [u32; 6], sample: &[u8]) -> bool
+pub fn take_reading(rec: &mut [u8], x: [u32; PAIRS], sample: &[u8]) -> bool
     requires sound { Sound rec.old }
     requires sample_len { (length sample.now ≡ 4 * channels) × (x ≡ words_at channels sample.now 0) }
     requires sample_value { all_finite channels sample.now 0 ≡ true }
