@@ -117,12 +117,12 @@ pub put-none : (d : List ℕ) (at : ℕ) (p : List ℕ) → length p ≡ 0 → d
 put-none d at [] h = sym (put-nil d at)
 put-none d at (x ∷ p) h = absurd (omega arith)
 
--- ---- eight to 24 bytes, x being the buffer behind the test for a gap
+-- ---- a part of one to three words, x being the buffer behind the test for a gap
 
-module _ (d : List ℕ) (at : ℕ) (p : List ℕ) (h : at + length p ≤ length d) (x : List ℕ)
-    (w : ((16 < length p) × (x ≡ put d (at + 8) (bytes_at 8 p 8))) ⊎ ((length p ≤ 16) × (x ≡ d))) where
-  pub gap-put : 8 ≤ length p → length p ≤ 24 → put (put x at (bytes_at 8 p 0)) (at + length p - 8) (bytes_at 8 p (length p - 8)) ≡ put d at p
-  gap-put a b = ⊎_elim (λ q. rw q.1 (put-three-words d at p h 8 (omega (arith, q.0)) b)) (λ q. rw q.1 (put-ends d at p h 8 a q.0)) w
+module _ (d : List ℕ) (at : ℕ) (p : List ℕ) (h : at + length p ≤ length d) (k : ℕ) (x : List ℕ)
+    (w : ((k < length p - k) × (x ≡ put d (at + k) (bytes_at k p k))) ⊎ ((length p - k ≤ k) × (x ≡ d))) where
+  pub gap-put : k ≤ length p → length p ≤ k + k + k → put (put x at (bytes_at k p 0)) (at + length p - k) (bytes_at k p (length p - k)) ≡ put d at p
+  gap-put a b = ⊎_elim (λ q. rw q.1 (put-three-words d at p h k (omega (arith, q.0)) b)) (λ q. rw q.1 (put-ends d at p h k a (omega (arith, q.0)))) w
 
 -- ---- eight to 24 zeros
 

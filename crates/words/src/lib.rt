@@ -4,38 +4,24 @@
 ghost use Rattle.std.specs.Prelude.{◌≡◌, ◌+◌, ◌-◌, ◌≤◌, ◌<◌, length, replicate};
 ghost use Rattle.wire.specs.Numbers.{put};
 
-use low::{eight_at, four_at, put_eight, put_four};
+use buffer::write::put_in;
+use low::{bytes_from, put_eight};
 
-// Eight to 24 bytes by their first, last and, if these leave a gap, second eight.
-fn put_eights(buffer: &mut [u8], at: usize, part: &[u8]) -> usize
+// N to 3N bytes by their first, their last and, if these leave a gap, their second N.
+fn put_words<const N: usize>(buffer: &mut [u8], at: usize, part: &[u8]) -> usize
     requires part_in_bounds { at + length part.now ≤ length buffer.old }
-    requires in_bounds { (8 ≤ length part.now) × (length part.now ≤ 24) }
+    requires in_bounds { (N ≤ length part.now) × (length part.now ≤ N + N + N) }
     ensures { (result ≡ at + length part.now) × (buffer.new ≡ put buffer.old at part.now) }
 {
     let n = part.len();
-    let a = eight_at(part, 0);
-    let c = eight_at(part, n - 8);
-    if 16 < n {
-        let b = eight_at(part, 8);
-        put_eight(buffer, at + 8, b);
+    let first: [u8; N] = bytes_from(part, 0);
+    let last: [u8; N] = bytes_from(part, n - N);
+    if N < n - N {
+        let second: [u8; N] = bytes_from(part, N);
+        put_in(buffer, at + N, &second);
     }
-    put_eight(buffer, at, a);
-    put_eight(buffer, at + n - 8, c);
-    at + n
-}
-
-// Four to seven bytes by their first and their last four.
-fn put_fours(buffer: &mut [u8], at: usize, part: &[u8]) -> usize
-    requires part_in_bounds { at + length part.now ≤ length buffer.old }
-    requires in_bounds { (4 ≤ length part.now) × (length part.now < 8) }
-    ensures { (result ≡ at + length part.now) × (buffer.new ≡ put buffer.old at part.now) }
-{
-    let n = part.len();
-    let a = four_at(part, 0);
-    let c = four_at(part, n - 4);
-    put_four(buffer, at, a);
-    put_four(buffer, at + n - 4, c);
-    at + n
+    put_in(buffer, at, &first);
+    put_in(buffer, at + n - N, &last)
 }
 
 // One to three bytes: the first, the middle and the last of them.
@@ -62,10 +48,10 @@ pub fn put_few(buffer: &mut [u8], at: usize, part: &[u8]) -> usize
 {
     let n = part.len();
     if 8 <= n {
-        return put_eights(buffer, at, part);
+        return put_words::<8>(buffer, at, part);
     }
     if 4 <= n {
-        return put_fours(buffer, at, part);
+        return put_words::<4>(buffer, at, part);
     }
     if n == 0 {
         return at;

@@ -1,8 +1,12 @@
--- `eight_at`: two words of four bytes are one of eight.
-use Rattle.low.proofs.LowLaws.{eight-read}
+-- `eight_at`: the bytes of the number that was read are those that it was read from.
+use Rattle.std.proofs.Common.{◌∙◌, sym, refl, ap, arith, w64}
+use Rattle.std.proofs.lemmas.Nat.{le_bytes_8}
+use Rattle.std.specs.Int.{from_le_bytes}
+use Rattle.wire.proofs.NumberLaws.{bytes-part}
+use Rattle.low.proofs.LowLaws.{low-first}
 use Rattle.low.proofs.eight_at.Goals as goal
 
 pub returns : goal.returns
 returns c =
-    let z = c.args in
-    eight-read z.s.now z.at _ _ _ _ c.four_at.ensures c.four_at-2.ensures c.wide.ensures c.wide-2.ensures
+    let e = c.from_le_bytes.ensures ∙ ap (from_le_bytes w64) c.bytes_from.ensures in
+    sym (low-first 8 c.from_le_bytes.result) ∙ le_bytes_8 _ c.from_le_bytes.result refl (bytes-part 8 c.args.s.now c.args.at (λ i. omega (arith, c.type_inv.s i))) e

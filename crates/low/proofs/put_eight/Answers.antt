@@ -1,7 +1,9 @@
--- `put_eight`: its lower and its upper four bytes are the bytes of the number.
-use Rattle.low.proofs.LowLaws.{eight-stores}
+-- `put_eight`: the bytes that are copied are those of the number.
+use Rattle.std.proofs.Common.{◌∙◌, arith}
+use Rattle.wire.proofs.PutLaws.{put-mid}
+use Rattle.low.proofs.LowLaws.{low-first}
 use Rattle.low.proofs.put_eight.Goals as goal
 
 pub returns : goal.returns
 returns c =
-    eight-stores c.args.buffer.now _ _ c.args.at c.args.w c.requires c.put_four.ensures c.put_four-2.ensures
+    rw (c.copy_from_slice.ensures.after ∙ c.to_le_bytes.ensures ∙ low-first 8 c.args.w) (put-mid c.args.buffer.now c.args.at _ _ (omega arith))

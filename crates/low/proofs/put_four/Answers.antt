@@ -1,17 +1,9 @@
--- `put_four`: four stores are the bytes of the number.
-use Rattle.low.proofs.LowLaws.{four-stores}
-use native.Mathlib.Omega.{arith}
-use lib.ListN.{length-set}
+-- `put_four`: the bytes that are copied are those of the number.
+use Rattle.std.proofs.Common.{◌∙◌, arith}
+use Rattle.wire.proofs.PutLaws.{put-mid}
+use Rattle.low.proofs.LowLaws.{low-first}
 use Rattle.low.proofs.put_four.Goals as goal
 
-pub bounds-buffer-at-2 : goal.bounds-buffer-at-2
-bounds-buffer-at-2 c = simp length-set (omega arith)
-
-pub bounds-buffer-at-3 : goal.bounds-buffer-at-3
-bounds-buffer-at-3 c = simp length-set (omega arith)
-
-pub bounds-buffer-at-4 : goal.bounds-buffer-at-4
-bounds-buffer-at-4 c = simp length-set (omega arith)
-
 pub returns : goal.returns
-returns c = four-stores c.args.buffer.now c.args.at c.args.w c.requires
+returns c =
+    rw (c.copy_from_slice.ensures.after ∙ c.to_le_bytes.ensures ∙ low-first 4 c.args.w) (put-mid c.args.buffer.now c.args.at _ _ (omega arith))
