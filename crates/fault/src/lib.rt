@@ -1,11 +1,13 @@
-// The place of the first faulty field of a record, asked for behind the check's no. Each function looks at some parts and goes on to those behind them, so that the file has the fields in record order.
+// The place of the first faulty field of a record, asked for behind the check's no: a function for each group of fields, in record order.
+// The check looks at the same fields with no branch between them, so it and these tests stay apart.
 #![tactic(auto)]
 
-ghost use Rattle.std.specs.Prelude.{◌≡◌, ◌+◌, ◌≤◌, length};
+ghost use Rattle.std.specs.Prelude.{◌≡◌, ◌+◌, ◌^◌, ◌<◌, ◌≤◌, length};
 ghost use Rattle.peak.specs.Pairs.{pair_fits, pair_at};
 ghost use Rattle.record.specs.Layout.{record_size};
 ghost use Rattle.record.specs.Form.{fault_of};
-ghost use Rattle.fault.specs.Rest.{fault_from, radio_parts, input_parts, switch_parts, text_parts, pending_parts, pair_parts};
+ghost use Rattle.form.specs.Groups.{head_fields, radio_fields, input_fields, switch_fields, name_fields, model_fields, pending_fields, pair_fields};
+ghost use Rattle.fault.specs.Rest.{held, held_all, in_turn, answers_of};
 
 use form::{model_fine, name_fine, pending_fine};
 use limits::{INPUT_TYPE_MOST, MODE_MOST, ON_OFF_MOST, STEP_MOST, interval_fits, power_fits};
@@ -18,8 +20,6 @@ use record::places::{
     SIZE_FIELD, TRIES_MOST, VERSION,
 };
 
-const INPUTS: usize = AT_OUTPUTS - AT_INPUTS;
-
 // 0 if there is no fault, but then nobody asks.
 pub fn fault_of(s: &[u8]) -> u32
     ensures { result ≡ fault_of s.now }
@@ -27,116 +27,112 @@ pub fn fault_of(s: &[u8]) -> u32
     if s.len() != RECORD_SIZE {
         return AT_SIZE as u32;
     }
-    if half_at(s, AT_SIZE) != SIZE_FIELD {
-        return AT_SIZE as u32;
-    }
-    if s[AT_VERSION] != VERSION {
-        return AT_VERSION as u32;
-    }
-    if FOUR_BITS <= s[AT_FLAGS] {
-        return AT_FLAGS as u32;
-    }
-    if TRIES_MOST < s[AT_TRIES] {
-        return AT_TRIES as u32;
-    }
-    radio_fault(s)
+    check_fields(s).err().unwrap_or(0)
 }
 
-fn radio_fault(s: &[u8]) -> u32
+fn check_fields(s: &[u8]) -> Result<(), u32>
     requires { record_size ≤ length s.now }
-    ensures { result ≡ fault_from s.now radio_parts }
+    ensures { result ≡ in_turn (answers_of s.now) }
 {
-    if !power_fits(half_at(s, AT_POWER)) {
-        return AT_POWER as u32;
-    }
-    if STEP_MOST < s[AT_STEP] {
-        return AT_STEP as u32;
-    }
-    if MODE_MOST < s[AT_MODE] {
-        return AT_MODE as u32;
-    }
-    if ON_OFF_MOST < s[AT_ON_OFF] {
-        return AT_ON_OFF as u32;
-    }
-    input_fault(s)
+    check_head(s)?;
+    check_radio(s)?;
+    check_inputs(s)?;
+    check_switches(s)?;
+    check_name(s)?;
+    check_model(s)?;
+    check_pending(s)?;
+    check_pairs(s)
 }
 
-fn input_fault(s: &[u8]) -> u32
-    requires { record_size ≤ length s.now }
-    ensures { result ≡ fault_from s.now input_parts }
+// The place of a field whose test has failed.
+fn check(fine: bool, place: usize) -> Result<(), u32>
+    requires { place < 2 ^ 32 }
+    ensures { result ≡ held fine place }
 {
-    let mut i = 0;
-    while i < INPUTS {
-        let at = AT_INPUTS + i;
-        if INPUT_TYPE_MOST < s[at] {
-            return at as u32;
-        }
-        i += 1;
-    }
-    switch_fault(s)
+    if fine { Ok(()) } else { Err(place as u32) }
 }
 
-fn switch_fault(s: &[u8]) -> u32
+#[tactic(auto, unfolding(crate::specs::Rest::held_all))]
+fn check_head(s: &[u8]) -> Result<(), u32>
     requires { record_size ≤ length s.now }
-    ensures { result ≡ fault_from s.now switch_parts }
+    ensures { result ≡ held_all (head_fields s.now) }
 {
-    if FOUR_BITS <= s[AT_OUTPUTS] {
-        return AT_OUTPUTS as u32;
-    }
-    if !interval_fits(s[AT_INTERVAL]) {
-        return AT_INTERVAL as u32;
-    }
-    if FILTERS <= word_at(s, AT_FILTER) {
-        return AT_FILTER as u32;
-    }
-    text_fault(s)
+    check(half_at(s, AT_SIZE) == SIZE_FIELD, AT_SIZE)?;
+    check(s[AT_VERSION] == VERSION, AT_VERSION)?;
+    check(s[AT_FLAGS] < FOUR_BITS, AT_FLAGS)?;
+    check(s[AT_TRIES] <= TRIES_MOST, AT_TRIES)
 }
 
-fn text_fault(s: &[u8]) -> u32
+#[tactic(auto, unfolding(crate::specs::Rest::held_all))]
+fn check_radio(s: &[u8]) -> Result<(), u32>
     requires { record_size ≤ length s.now }
-    ensures { result ≡ fault_from s.now text_parts }
+    ensures { result ≡ held_all (radio_fields s.now) }
 {
-    let name = s[AT_NAME_LENGTH] as usize;
-    if NAME_ROOM < name {
-        return AT_NAME_LENGTH as u32;
-    }
-    if !name_fine(s) {
-        return AT_NAME as u32;
-    }
-    if !model_fine(s, AT_MODEL) {
-        return AT_MODEL as u32;
-    }
-    pending_fault(s)
+    check(power_fits(half_at(s, AT_POWER)), AT_POWER)?;
+    check(s[AT_STEP] <= STEP_MOST, AT_STEP)?;
+    check(s[AT_MODE] <= MODE_MOST, AT_MODE)?;
+    check(s[AT_ON_OFF] <= ON_OFF_MOST, AT_ON_OFF)
 }
 
-fn pending_fault(s: &[u8]) -> u32
+fn check_inputs(s: &[u8]) -> Result<(), u32>
     requires { record_size ≤ length s.now }
-    ensures { result ≡ fault_from s.now pending_parts }
+    ensures { result ≡ held_all (input_fields s.now) }
 {
-    let waiting = s[AT_PENDING_LENGTH] as usize;
-    if PENDING_ROOM < waiting {
-        return AT_PENDING_LENGTH as u32;
+    for at in AT_INPUTS..AT_OUTPUTS {
+        check(s[at] <= INPUT_TYPE_MOST, at)?;
     }
-    if !pending_fine(s) {
-        return AT_PENDING as u32;
-    }
-    pair_fault(s)
+    Ok(())
 }
 
-fn pair_fault(s: &[u8]) -> u32
+#[tactic(auto, unfolding(crate::specs::Rest::held_all))]
+fn check_switches(s: &[u8]) -> Result<(), u32>
     requires { record_size ≤ length s.now }
-    ensures { result ≡ fault_from s.now pair_parts }
+    ensures { result ≡ held_all (switch_fields s.now) }
+{
+    check(s[AT_OUTPUTS] < FOUR_BITS, AT_OUTPUTS)?;
+    check(interval_fits(s[AT_INTERVAL]), AT_INTERVAL)?;
+    check(word_at(s, AT_FILTER) < FILTERS, AT_FILTER)
+}
+
+#[tactic(auto, unfolding(crate::specs::Rest::held_all))]
+fn check_name(s: &[u8]) -> Result<(), u32>
+    requires { record_size ≤ length s.now }
+    ensures { result ≡ held_all (name_fields s.now) }
+{
+    check(usize::from(s[AT_NAME_LENGTH]) <= NAME_ROOM, AT_NAME_LENGTH)?;
+    check(name_fine(s), AT_NAME)
+}
+
+#[tactic(auto, unfolding(crate::specs::Rest::held_all))]
+fn check_model(s: &[u8]) -> Result<(), u32>
+    requires { record_size ≤ length s.now }
+    ensures { result ≡ held_all (model_fields s.now) }
+{
+    check(model_fine(s, AT_MODEL), AT_MODEL)
+}
+
+#[tactic(auto, unfolding(crate::specs::Rest::held_all))]
+fn check_pending(s: &[u8]) -> Result<(), u32>
+    requires { record_size ≤ length s.now }
+    ensures { result ≡ held_all (pending_fields s.now) }
+{
+    check(
+        usize::from(s[AT_PENDING_LENGTH]) <= PENDING_ROOM,
+        AT_PENDING_LENGTH,
+    )?;
+    check(pending_fine(s), AT_PENDING)
+}
+
+fn check_pairs(s: &[u8]) -> Result<(), u32>
+    requires { record_size ≤ length s.now }
+    ensures { result ≡ held_all (pair_fields s.now) }
 {
     let seen = s[AT_FLAGS] / READING % 2 == 1;
-    let mut i = 0;
-    while i < PAIRS {
+    for i in 0..PAIRS {
         let at = AT_PAIRS + 8 * i;
-        if !pair_fine(s, at, seen) {
-            return at as u32;
-        }
-        i += 1;
+        check(pair_fine(s, at, seen), at)?;
     }
-    0
+    Ok(())
 }
 
 // Whether a pair stands at a place: zeros before a reading, else finite with the smallest value not above the greatest.
