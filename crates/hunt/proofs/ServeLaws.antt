@@ -37,9 +37,9 @@ pub record ServesFor (heads : Heads) (r : Record) (l before : List ℕ) (t : Cou
   pub bytes : out ≡ put before 0 (replies_bytes (hunt heads on_piece r l).said)
 
 -- the board's own call
-pub serves-board : (r : Record) (input before : List ℕ) (t : Counts) (kept out : List ℕ) → ServesFor serial r (r.pending ++ input) before t kept out → Serves r input before t kept out
+pub serves-board : {r : Record} {input before : List ℕ} {t : Counts} {kept out : List ℕ} → ServesFor serial r (r.pending ++ input) before t kept out → Serves r input before t kept out
 unfolding hunt_of
-serves-board r input before t kept out e = record { record_is = e.record_is; written_is = e.written_is; skipped_is = e.skipped_is; bytes = e.bytes }
+serves-board e = record { record_is = e.record_is; written_is = e.written_is; skipped_is = e.skipped_is; bytes = e.bytes }
 
 after-of : (h : Hunted Record Reply) → record_after h ≡ with_pending h.state h.waiting
 unfolding record_after
@@ -88,23 +88,23 @@ module _ (p i : List ℕ) (n : ℕ) (n-is : n ≡ length i - (length i - frame_m
 
 -- ---- the end, by what was said
 
-module _ (heads : Heads) (r : Record) (p input before : List ℕ) where
+module _ (p input : List ℕ) {heads : Heads} {r : Record} {before : List ℕ} where
   serves-said : (b : Record) (said : List Reply) (k wrote : ℕ) (rest kept out : List ℕ)
       → hunt heads on_piece r (p ++ input) ≡ record { state = b; said = said; skipped = k; waiting = rest } → kept ≡ bytes_of (with_pending b rest)
       → wrote ≡ length (replies_bytes said) → out ≡ put before 0 (replies_bytes said) → ServesFor heads r (p ++ input) before (record { written = wrote; skipped = k }) kept out
   serves-said b said k wrote rest kept out h e w o = record { record_is = rw (h, after-of) e; written_is = rw h w; skipped_is = rw h refl; bytes = rw h o }
 
   -- no bytes are pending, and the stream is the input
-  pub serves-input : p ≡ [] → (x : Progress) (mid kept out : List ℕ) → Hunts heads r input before (length input) 0 x mid out → Turns mid kept (λ z. with_pending z (drop x.at input))
-      → ServesFor heads r (p ++ input) before (record { written = x.wrote; skipped = x.skipped }) kept out
-  serves-input none x mid kept out y t =
+  pub serves-input : p ≡ [] → {x : Progress} {mid kept out : List ℕ} → Hunts heads r input before (length input) 0 x mid out → Turns mid kept (λ z. with_pending z (drop x.at input))
+      → ServesFor heads r (p ++ input) before x.counts kept out
+  serves-input none {x} {mid} {kept} {out} y t =
       let g = y.going in
       let halts : hunt heads on_piece g.board (drop x.at input) ≡ halt g.board (drop x.at input) = stopped Record Reply heads on_piece g.board input x.at (length input) (omega arith) y.stops in
-      serves-said g.board g.sofar.said x.skipped x.wrote (drop x.at input) kept out
-      (rw none (along-end Record Reply heads on_piece r input g.board x.at x.skipped g.sofar.said g.sofar.along halts))
+      serves-said g.board g.sofar.said x.counts.skipped x.counts.written (drop x.at input) kept out
+      (rw none (along-end Record Reply heads on_piece r input g.board x.at x.counts.skipped g.sofar.said g.sofar.along halts))
       (t g.board g.held.fit g.held.same) (g.sofar.wrote_is ∙ zero-add _) g.sofar.bytes
 
-  module _ (n : ℕ) (n-is : n ≡ length input - (length input - frame_most)) (h : Progress) (kept out : List ℕ)
+  module _ {n : ℕ} (n-is : n ≡ length input - (length input - frame_most)) {h : Progress} {kept out : List ℕ}
       (f : Hunts heads r (p ++ take n input) before (length p) 0 h kept out) where
     abbrev head : List ℕ
     head = p ++ take n input
@@ -115,16 +115,16 @@ module _ (heads : Heads) (r : Record) (p input before : List ℕ) where
     -- all waits in the joined head
     module _ (ok : Huntable heads) (a : h.at < length p) where
       all : (head ≡ p ++ input) × (hunt heads on_piece f.going.board (drop h.at head) ≡ halt f.going.board (drop h.at head))
-      all = waits-all p input n n-is heads ok r f.going.board h.at h.skipped f.going.sofar.said f.going.sofar.along a f.stops
+      all = waits-all p input n n-is heads ok r f.going.board h.at h.counts.skipped f.going.sofar.said f.going.sofar.along a f.stops
 
       pub head-short : length (drop h.at head) ≤ wait_most
       head-short = halted-short heads ok f.going.board (drop h.at head) all.1
 
-      pub serves-head : (kept' : List ℕ) → Turns kept kept' (λ x. with_pending x (drop h.at head)) → ServesFor heads r (p ++ input) before (record { written = h.wrote; skipped = h.skipped }) kept' out
-      serves-head kept' t =
+      pub serves-head : {kept' : List ℕ} → Turns kept kept' (λ x. with_pending x (drop h.at head)) → ServesFor heads r (p ++ input) before h.counts kept' out
+      serves-head {kept'} t =
           let g = f.going in
-          serves-said g.board g.sofar.said h.skipped h.wrote (drop h.at head) kept' out
-          (ap (hunt heads on_piece r) (sym all.0) ∙ along-end Record Reply heads on_piece r head g.board h.at h.skipped g.sofar.said g.sofar.along all.1)
+          serves-said g.board g.sofar.said h.counts.skipped h.counts.written (drop h.at head) kept' out
+          (ap (hunt heads on_piece r) (sym all.0) ∙ along-end Record Reply heads on_piece r head g.board h.at h.counts.skipped g.sofar.said g.sofar.along all.1)
           (t g.board g.held.fit g.held.same) (g.sofar.wrote_is ∙ zero-add _) g.sofar.bytes
 
     -- the hunt went on in the input
@@ -135,28 +135,28 @@ module _ (heads : Heads) (r : Record) (p input before : List ℕ) where
       said_fits : 0 + length (replies_bytes f.going.sofar.said) ≤ length before
       said_fits = omega (arith, f.going.sofar.room, f.going.sofar.along.within, joined_length p input n n-is)
 
-      pub rest-room : h.wrote + room_for (length rest) ≤ length out
+      pub rest-room : h.counts.written + room_for (length rest) ≤ length out
       rest-room =
           let m : length out ≡ length before = ap length f.going.sofar.bytes ∙ length-put before 0 (replies_bytes f.going.sofar.said) said_fits in
           omega (arith, f.going.sofar.room, f.going.sofar.wrote_is, rest-starts, length-drop (h.at - length p) input)
 
-      module _ (x : Progress) (kept₂ out₂ : List ℕ) (y : Hunts heads (record_of kept) rest out (length rest) h.wrote x kept₂ out₂) where
+      module _ {x : Progress} {kept₂ out₂ : List ℕ} (y : Hunts heads (record_of kept) rest out (length rest) h.counts.written x kept₂ out₂) where
         end-halts : hunt heads on_piece y.going.board (drop x.at rest) ≡ halt y.going.board (drop x.at rest)
         end-halts = stopped Record Reply heads on_piece y.going.board rest x.at (length rest) (omega arith) y.stops
 
-        pub serves-rest : Huntable heads → (kept₃ : List ℕ) → Turns kept₂ kept₃ (λ z. with_pending z (drop x.at rest)) → ServesFor heads r (p ++ input) before (record { written = x.wrote; skipped = h.skipped + x.skipped }) kept₃ out₂
-        serves-rest ok kept₃ t =
+        pub serves-rest : Huntable heads → {kept₃ : List ℕ} → Turns kept₂ kept₃ (λ z. with_pending z (drop x.at rest)) → ServesFor heads r (p ++ input) before (record { written = x.counts.written; skipped = h.counts.skipped + x.counts.skipped }) kept₃ out₂
+        serves-rest ok {kept₃} t =
             let g = f.going in
             let u = y.going in
             let said = g.sofar.said in
             let more = u.sofar.said in
             let v : replies_bytes (said ++ more) ≡ replies_bytes said ++ replies_bytes more = written-append said more in
-            let first : hunt heads on_piece r (p ++ input) ≡ ahead said h.skipped (hunt heads on_piece g.board rest) =
-            goes_on p input n n-is heads ok r g.board h.at h.skipped said g.sofar.along past in
-            let second : hunt heads on_piece g.board rest ≡ record { state = u.board; said = more; skipped = x.skipped; waiting = drop x.at rest } =
+            let first : hunt heads on_piece r (p ++ input) ≡ ahead said h.counts.skipped (hunt heads on_piece g.board rest) =
+            goes_on p input n n-is heads ok r g.board h.at h.counts.skipped said g.sofar.along past in
+            let second : hunt heads on_piece g.board rest ≡ record { state = u.board; said = more; skipped = x.counts.skipped; waiting = drop x.at rest } =
             ap (λ (b : Record). hunt heads on_piece b rest) (sym (holds-is g.board kept g.held))
-            ∙ along-end Record Reply heads on_piece (record_of kept) rest u.board x.at x.skipped more u.sofar.along end-halts in
-            serves-said u.board (said ++ more) (h.skipped + x.skipped) x.wrote (drop x.at rest) kept₃ out₂ (first ∙ rw second refl)
+            ∙ along-end Record Reply heads on_piece (record_of kept) rest u.board x.at x.counts.skipped more u.sofar.along end-halts in
+            serves-said u.board (said ++ more) (h.counts.skipped + x.counts.skipped) x.counts.written (drop x.at rest) kept₃ out₂ (first ∙ rw second refl)
             (t u.board u.held.fit u.held.same)
             (u.sofar.wrote_is ∙ rw (v, g.sofar.wrote_is, zero-add) (sym (length-append (replies_bytes said) (replies_bytes more))))
             (u.sofar.bytes ∙ rw (v, g.sofar.wrote_is, g.sofar.bytes) (put-put before 0 (replies_bytes said) (replies_bytes more) said_fits))

@@ -29,7 +29,7 @@ pub record Going (heads : Heads) (r : Record) (l before : List ℕ) (start at sk
 
 -- what the hunt through a stream leaves: it came up to a place, or to a candidate that waits
 pub record Hunts (heads : Heads) (r : Record) (l before : List ℕ) (until start : ℕ) (p : Progress) (kept out : List ℕ) : Type 0 where
-  pub going : Going heads r l before start p.at p.skipped p.wrote kept out
+  pub going : Going heads r l before start p.at p.counts.skipped p.counts.written kept out
   pub stops : (until ≤ p.at) ⊎ (look heads (drop p.at l) ≡ Wait)
 
 -- what the hunt through all of a stream leaves, with what waits as the pending bytes

@@ -2,7 +2,7 @@
 #![tactic(auto)]
 
 ghost use Rattle.std.specs.Prelude.{◌≡◌, ◌+◌, ◌-◌, ◌≤◌, length, take, drop};
-ghost use Rattle.wire.specs.Sizes.{frame_most, wait_most, input_most, stream_most, join_most};
+ghost use Rattle.wire.specs.Sizes.{wait_most, input_most, stream_most, join_most};
 ghost use Rattle.wire.specs.Serial.{heads_of};
 ghost use Rattle.record.specs.Layout.{pending_room, record_of};
 ghost use Rattle.record.specs.InPlace.{Sound};
@@ -17,19 +17,18 @@ use wire::Line;
 use wire::sizes::{FRAME_MOST, JOIN_MOST};
 use words::put_few;
 
-// How far a hunt came: the place in its stream, the place in the output, the bytes skipped.
-#[derive(Drop)]
-pub struct Progress {
-    pub at: usize,
-    pub wrote: usize,
-    pub skipped: usize,
-}
-
-// What a bytes call tells of its whole stream.
+// What is told of a stream: how far the output is written, the bytes skipped.
 #[derive(Drop)]
 pub struct Counts {
     pub written: usize,
     pub skipped: usize,
+}
+
+// How far a hunt came: the place in its stream, and what it tells.
+#[derive(Drop)]
+pub struct Progress {
+    pub at: usize,
+    pub counts: Counts,
 }
 
 // The output that the replies to pending bytes and input can fill.
@@ -41,6 +40,7 @@ pub fn room_for(held: usize, len: usize) -> usize
 }
 
 // Hunts through s, for the heads of a line, up to the first piece that begins at `until` or later; writes the replies from a place on.
+#[tactic(auto, using(crate::proofs::GoingLaws::frame_whole))]
 fn hunt_in(
     line: Line,
     rec: &mut [u8],
@@ -57,6 +57,7 @@ fn hunt_in(
     let mut at = 0;
     let mut wrote = start;
     let mut framed = 0;
+    // Left by its label, a rule of the project; no range to go over, since each piece says how far the next turn goes.
     'hunt: while at < until {
         let found = find(line, s, at, until);
         let seen = found.seen;
@@ -80,19 +81,11 @@ fn hunt_in(
     // What is skipped is what was passed and is no frame.
     Progress {
         at,
-        wrote,
-        skipped: at - framed,
+        counts: Counts {
+            written: wrote,
+            skipped: at - framed,
+        },
     }
-}
-
-// What a candidate that starts in the pending bytes can reach of the input.
-fn reach(len: usize) -> usize
-    ensures { result ≡ len - (len - frame_most) }
-{
-    if len < FRAME_MOST {
-        return len;
-    }
-    FRAME_MOST
 }
 
 // Joins the pending bytes, which stand at a place, and as much of the input as a candidate that starts in them can reach.
@@ -100,7 +93,7 @@ fn join(rec: &[u8], at: usize, held: usize, input: &[u8], head: &mut [u8]) -> us
     requires { (at + held ≤ length rec.now) × (held ≤ wait_most) × (length head.old ≡ join_most) }
     ensures { Joins (take held (drop at rec.now)) input.now result head.new }
 {
-    let n = reach(input.len());
+    let n = input.len().min(FRAME_MOST);
     let end = put_few(head, 0, &rec[at..at + held]);
     put_few(head, end, &input[..n])
 }
@@ -120,6 +113,7 @@ fn hunt_rest(line: Line, rec: &mut [u8], s: &[u8], out: &mut [u8], start: usize)
 }
 
 // With pending bytes: first the candidates that start in them, then the input itself.
+#[tactic(auto, using(crate::proofs::JoinLaws::joining))]
 fn serve_held(rec: &mut [u8], held: usize, input: &[u8], out: &mut [u8]) -> Counts
     requires sound { Sound rec.old }
     requires held_value { held ≡ length (record_of rec.old).pending }
@@ -133,16 +127,13 @@ fn serve_held(rec: &mut [u8], held: usize, input: &[u8], out: &mut [u8]) -> Coun
     let at = first.at;
     if at < held {
         set_pending(rec, AT_PENDING_LENGTH, PENDING_ROOM, &head[at..total]);
-        return Counts {
-            written: first.wrote,
-            skipped: first.skipped,
-        };
+        return first.counts;
     }
     let from = at - held;
-    let rest = hunt_rest(Line::Board, rec, &input[from..], out, first.wrote);
+    let rest = hunt_rest(Line::Board, rec, &input[from..], out, first.counts.written);
     Counts {
-        written: rest.wrote,
-        skipped: first.skipped + rest.skipped,
+        written: rest.counts.written,
+        skipped: first.counts.skipped + rest.counts.skipped,
     }
 }
 
@@ -156,10 +147,7 @@ pub fn serve(rec: &mut [u8], input: &[u8], out: &mut [u8]) -> Counts
     let held = rec[AT_PENDING_LENGTH] as usize;
     if held == 0 {
         let p = hunt_rest(Line::Board, rec, input, out, 0);
-        return Counts {
-            written: p.wrote,
-            skipped: p.skipped,
-        };
+        return p.counts;
     }
     serve_held(rec, held, input, out)
 }
