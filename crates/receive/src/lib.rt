@@ -10,7 +10,6 @@ use form::form_of;
 use hunt::{room_for, serve};
 use record::Form;
 use record::places::AT_PENDING_LENGTH;
-use table::entries::command_table;
 use wire::sizes::INPUT_MOST;
 
 // Carries out every whole frame of the pending bytes and the input; what waits becomes the new pending bytes.
@@ -27,12 +26,11 @@ pub fn answer_bytes(rec: &mut [u8], input: &[u8], out: &mut [u8]) -> Answer
     if out.len() < room_for(held, input.len()) {
         return ended(Ending::NoRoom);
     }
-    // What waited goes on waiting, and no table is needed.
+    // What waited goes on waiting.
     if input.len() == 0 {
         return ended(Ending::Done);
     }
-    let table = command_table();
-    let p = serve(&table, rec, input, out);
+    let p = serve(rec, input, out);
     let written = p.written as u32;
     let skipped = p.skipped as u32;
     Answer {

@@ -75,7 +75,7 @@ serve-p-requires c =
     let good : form_of rec₀ ≡ Good = sym c.form_of.ensures ∙ c.in-Good.is in
     let sound : Sound rec₀ = good-sound rec₀ bytes good in
     let short : length c.args.input.now ≤ input_most = omega (arith, c.if-input-gt-INPUT_MOST.false) in
-    record { table_value = c.command_table-table.ensures; sound = sound; input_len_bound = short; input_in_bounds = omega (arith, held-is rec₀ sound, c.if-out-room_for.false, c.room_for.ensures) }
+    record { sound = sound; input_len_bound = short; input_in_bounds = omega (arith, held-is rec₀ sound, c.if-out-room_for.false, c.room_for.ensures) }
 
 pub overflow_cast-written : goal.overflow_cast-written
 overflow_cast-written c =
