@@ -1,5 +1,5 @@
 -- What stands at the place of a part is a field, and a store there is a change of that field, in any layout that has the part.
-use Prim.Native.Nat.{ℕ, zero, suc, ◌+◌, ◌*◌, ◌≤◌, ◌<◌}
+use Prim.Native.Nat.{ℕ, zero, suc, ◌+◌, ◌-◌, ◌*◌, ◌≤◌, ◌<◌}
 use mathlib.Core.Path.{◌≡◌, refl, sym, ap, ap₂, ◌∙◌}
 use mathlib.Core.Bool.{Bool, true, cond}
 use mathlib.Core.List.{List, [], ◌∷◌}
@@ -8,22 +8,34 @@ use native.Mathlib.Numerals.{add-one}
 use native.Mathlib.Omega.{arith}
 use lib.ListN.{length, get_or, set, length-set}
 use lib.Seq.{sets}
-use lib.Dec.{eqb}
+use lib.Bits.{bit_and, bit_or}
 use Rattle.wire.specs.Numbers.{bytes2, bytes4, bytes_at}
 use Rattle.wire.proofs.NumberLaws.{length_part, part-all}
 use Rattle.peak.specs.Pairs.{Pair, no_pair, pair_bytes}
-use Rattle.record.specs.Record.{Flags, Record, with_output, with_power, with_step, with_mode, with_on_off, with_inputs, with_interval, with_filter, with_name, with_flags, with_tries, with_code, with_settings, with_outputs, with_model, with_pending, with_pairs, with_counter}
-use Rattle.record.specs.Layout.{Part, FlagByte, TriesByte, CodeWord, PowerHalf, StepByte, ModeByte, OnOffByte, InputBytes, OutputByte, IntervalByte, FilterWord, NamePart, ModelPart, PendingPart, PairsPart, CounterHalf, all_parts, has, each, Plan, name_room, width, place, flags_byte, outputs_byte, part_bytes, bytes_in}
-use Rattle.record.proofs.Choices.{masked, switch}
+use Rattle.record.specs.declared.Flag.{Flag}
+use Rattle.record.specs.declared.Flag.TheVariants.{Opened, Unlocked, Sending, Reading}
+use Rattle.record.specs.Record.{Flags, Record, flag_of, with_flag, with_output, with_power, with_step, with_mode, with_on_off, with_inputs, with_interval, with_filter, with_name, with_flags, with_tries, with_code, with_settings, with_outputs, with_model, with_pending, with_pairs, with_counter}
+use Rattle.record.specs.Layout.{Part, FlagByte, TriesByte, CodeWord, PowerHalf, StepByte, ModeByte, OnOffByte, InputBytes, OutputByte, IntervalByte, FilterWord, NamePart, ModelPart, PendingPart, PairsPart, CounterHalf, all_parts, has, each, Plan, name_room, width, place, flags_byte, outputs_byte, worth, bit_of, part_bytes, bytes_in}
+use Rattle.record.proofs.Choices.{masked, bits_back, switch}
 use Rattle.record.proofs.Parts.{part_at, sets-cons, pairs-part, pairs_set}
 use Rattle.record.specs.Laid.{Laid, core_parts}
 use Rattle.record.proofs.Layouts.{all_same, upd, lay-same, lay-store}
 use Rattle.record.proofs.Pieces.{chunk-long}
 use Rattle.record.proofs.RoundTrip.{get-part}
 
--- flag k, 1 to 4, as outputs are numbered
-abbrev pub with_flag : Flags → ℕ → Bool → Flags
-with_flag f k v = record { opened = cond (eqb k 1) v f.opened; unlocked = cond (eqb k 2) v f.unlocked; sending = cond (eqb k 3) v f.sending; reading = cond (eqb k 4) v f.reading }
+-- a flag set or cleared by its bit
+switch-flag : (k : Flag) (v : Bool) (f : Flags) → cond v (bit_or (flags_byte f) (worth k)) (bit_and (flags_byte f) (255 - worth k)) ≡ flags_byte (with_flag f k v)
+switch-flag Opened v f = switch 1 (omega arith) (omega arith) v f.opened f.unlocked f.sending f.reading
+switch-flag Unlocked v f = switch 2 (omega arith) (omega arith) v f.opened f.unlocked f.sending f.reading
+switch-flag Sending v f = switch 3 (omega arith) (omega arith) v f.opened f.unlocked f.sending f.reading
+switch-flag Reading v f = switch 4 (omega arith) (omega arith) v f.opened f.unlocked f.sending f.reading
+
+-- and read
+flag-back : (k : Flag) (f : Flags) → bit_of (flags_byte f) (worth k) ≡ flag_of f k
+flag-back Opened f = (bits_back f.opened f.unlocked f.sending f.reading).0
+flag-back Unlocked f = (bits_back f.opened f.unlocked f.sending f.reading).1
+flag-back Sending f = (bits_back f.opened f.unlocked f.sending f.reading).2
+flag-back Reading f = (bits_back f.opened f.unlocked f.sending f.reading).3
 
 -- a part of a part
 part-sub : (n : ℕ) (s : List ℕ) (at j m : ℕ) → j + m ≤ n → bytes_at m s (at + j) ≡ bytes_at m (bytes_at n s at) j
@@ -64,11 +76,14 @@ module _ (p : Plan) (l : Laid p) where
     unfolding with_flags
     set-flags_in v = store-all r (with_flags r v) FlagByte (core 2) (flags_byte v ∷ []) (omega arith) refl
 
-    -- flag k, 1 to 4, by its mask
-    pub set-flag_in : (k : ℕ) (v : Bool) → 1 ≤ k → k ≤ 4 → set (bytes_in p r) (place p FlagByte) (masked k v (get_or (bytes_in p r) (place p FlagByte) 0)) ≡ bytes_in p (with_flags r (with_flag r.flags k v))
-    set-flag_in k v a b =
-        ap (λ (x : ℕ). set (bytes_in p r) (place p FlagByte) (masked k v x)) get-flags_in
-        ∙ ap (set (bytes_in p r) (place p FlagByte)) (switch k a b v r.flags.opened r.flags.unlocked r.flags.sending r.flags.reading) ∙ set-flags_in (with_flag r.flags k v)
+    pub get-flag_in : (k : Flag) → bit_of (get_or (bytes_in p r) (place p FlagByte) 0) (worth k) ≡ flag_of r.flags k
+    get-flag_in k = ap (λ (b : ℕ). bit_of b (worth k)) get-flags_in ∙ flag-back k r.flags
+
+    pub set-flag_in : (k : Flag) (v : Bool) → let b = get_or (bytes_in p r) (place p FlagByte) 0 in
+        set (bytes_in p r) (place p FlagByte) (cond v (bit_or b (worth k)) (bit_and b (255 - worth k))) ≡ bytes_in p (with_flags r (with_flag r.flags k v))
+    set-flag_in k v =
+        ap (λ (b : ℕ). set (bytes_in p r) (place p FlagByte) (cond v (bit_or b (worth k)) (bit_and b (255 - worth k)))) get-flags_in
+        ∙ ap (set (bytes_in p r) (place p FlagByte)) (switch-flag k v r.flags) ∙ set-flags_in (with_flag r.flags k v)
 
     pub get-tries_in : get_or (bytes_in p r) (place p TriesByte) 0 ≡ r.tries
     get-tries_in = ap (λ (s : List ℕ). get_or s 0 0) (get-part p l r TriesByte (core 3))

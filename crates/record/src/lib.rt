@@ -10,6 +10,15 @@ pub enum Form {
     Bad,
 }
 
+// The flags of a record, each by what its bit is worth in their byte.
+#[derive(Clone, Copy)]
+pub enum Flag {
+    Opened = 1,
+    Unlocked = 2,
+    Sending = 4,
+    Reading = 8,
+}
+
 // The settings that are one number each, in record order.
 #[derive(Clone, Copy)]
 pub enum Setting {

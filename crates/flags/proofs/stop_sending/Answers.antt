@@ -1,15 +1,6 @@
 -- `stop_sending`: the store clears the flag of sending and keeps the rest.
 use Rattle.flags.proofs.Turn.{turn-stop}
-use native.Mathlib.Omega.{arith}
-use Rattle.record.specs.Layout.{FlagByte, at_flags}
-use Rattle.record.proofs.InPlaceLaws.{reaches}
 use Rattle.flags.proofs.stop_sending.Goals as goal
-
-pub bounds-rec-3 : goal.bounds-rec-3
-bounds-rec-3 c = omega (arith, reaches FlagByte at_flags c.args.rec.now c.requires)
-
-pub bounds-rec-3-2 : goal.bounds-rec-3-2
-bounds-rec-3-2 c = omega (arith, reaches FlagByte at_flags c.args.rec.now c.requires)
 
 pub returns : goal.returns
 returns c = turn-stop c.args.rec.now
