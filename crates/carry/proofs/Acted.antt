@@ -1,4 +1,5 @@
 -- One command judged and carried out, and a whole frame answered, from what their parts promise.
+use Rattle.std.specs.Prelude.{Result, Ok, Err, ⊤}
 use Prim.Native.Nat.{ℕ, ◌+◌, ◌-◌, ◌≤◌}
 use mathlib.Core.Path.{◌≡◌, refl, sym, ap, subst⁻¹, ◌∙◌}
 use mathlib.Core.List.{List, []}
@@ -33,17 +34,13 @@ use Rattle.command.specs.declared.Refusal.{Refusal}
 use Rattle.command.specs.declared.Refusal.TheVariants.{Unknown, Unbuilt, Miscounted, NoAccess, BadCode, TooBig, TooSmall}
 use Rattle.command.specs.declared.Verdict.{Verdict}
 use Rattle.command.specs.declared.Verdict.TheVariants.{Do, Refuse}
-use Rattle.command.specs.declared.Judged.TheVariants.{Passed, Refused}
 use Rattle.command.proofs.EntryLaws.{apart}
 use Rattle.command.proofs.Named.{named-is}
 use Rattle.command.proofs.Refused.{verdict-is, Checks, checks, verdict, by-is, step_by_lem, step_is}
 use Rattle.command.proofs.Keep.{by_in, wrong_code}
 use Rattle.judge.specs.Checks.{judged_count, judged_access, judged_by}
 use Rattle.data.specs.PutsData.{PutsData}
-use Rattle.ranged.specs.declared.Done.TheVariants.{Told, Missed}
 use Rattle.effect.specs.Carried.{Calls, Carried}
-use Rattle.carry.specs.declared.Said.{Said}
-use Rattle.carry.specs.declared.Said.TheVariants.{Answered, Denied}
 use Rattle.carry.specs.Carry.{Countable, status_in, count_in, Acts, Carries}
 
 -- a refusal that is no wrong code leaves no trace
@@ -57,18 +54,24 @@ left-none BadCode h r = absurd (h refl)
 left-none TooBig h r = refl
 left-none TooSmall h r = refl
 
+-- nor does one for the range
+no-code : (x : Range) (c : Command) (why : Refusal) → by_range x (Do c) ≡ Refuse why → why ≡ BadCode → ⊥
+no-code Fits c why h b = cc
+no-code Big c why h b = cc
+no-code Small c why h b = cc
+
 pub left_as : (why k : Refusal) → why ≡ k → (s t : List ℕ) → Turns s t (λ r. left_by k r) → Turns s t (λ r. left_by why r)
 left_as why k told s t g = subst⁻¹ (λ (x : Refusal). Turns s t (λ r. left_by x r)) told g
 
 -- ---- what the checks by an entry mean for the verdict
 
-count-refused : (x : Counted) (y : Access) (v : Verdict) (why : Refusal) → judged_count x (judged_access y) ≡ Refused why → by_count x (by_access y v) ≡ Refuse why
+count-refused : (x : Counted) (y : Access) (v : Verdict) (why : Refusal) → judged_count x (judged_access y) ≡ Err why → by_count x (by_access y v) ≡ Refuse why
 count-refused Wrong y v why h = cc
 count-refused Right Missing v why h = cc
 count-refused Right WrongCode v why h = cc
 count-refused Right Given v why h = apart cc
 
-count-passed : (x : Counted) (y : Access) → judged_count x (judged_access y) ≡ Passed → (x ≡ Right) × (y ≡ Given)
+count-passed : (x : Counted) (y : Access) → judged_count x (judged_access y) ≡ Ok tt → (x ≡ Right) × (y ≡ Given)
 count-passed Wrong y h = apart cc
 count-passed Right Missing h = apart cc
 count-passed Right WrongCode h = apart cc
@@ -79,31 +82,31 @@ module _ (r : Record) (head number : ℕ) (p : List ℕ) where
   abbrev pub Passes : Type 0
   Passes = (c : Command) × (listed_of head number ≡ Built c) × (counted_of c (length p) ≡ Right) × (access_of (need_of c) r p ≡ Given)
 
-  passes-by : (x : Listed) → listed_of head number ≡ x → judged_by (said_by x) r p ≡ Passed → Passes
+  passes-by : (x : Listed) → listed_of head number ≡ x → judged_by (said_by x) r p ≡ Ok tt → Passes
   unfolding judged_by counted_of
   passes-by (Built c) e h = let w = count-passed (counted_in (span_of c) (length p)) (access_of (need_of c) r p) h in (c, e, w.0, w.1)
   passes-by NotBuilt e h = apart cc
   passes-by Unlisted e h = apart cc
 
-  refuses-by : (x : Listed) → listed_of head number ≡ x → (why : Refusal) → judged_by (said_by x) r p ≡ Refused why → verdict_of r head number p ≡ Refuse why
+  refuses-by : (x : Listed) → listed_of head number ≡ x → (why : Refusal) → judged_by (said_by x) r p ≡ Err why → verdict_of r head number p ≡ Refuse why
   unfolding judged_by counted_of
   refuses-by (Built c) e why h = rw (verdict-is r head number p, e) (count-refused (counted_in (span_of c) (length p)) (access_of (need_of c) r p) (by_range (range_of c p) (Do c)) why h)
   refuses-by NotBuilt e why h = rw (verdict-is r head number p, e) (let q : Unbuilt ≡ why = cc in ap Refuse q)
   refuses-by Unlisted e why h = rw (verdict-is r head number p, e) (let q : Unknown ≡ why = cc in ap Refuse q)
 
-  module _ (entry : ℕ) (says : unpacked entry ≡ rows_say head number) where
-    pub passes : judged_by (unpacked entry) r p ≡ Passed → Passes
-    passes h = passes-by (listed_of head number) refl (rw says at h)
+  module _ (entry : ℕ) (says : unpacked entry ≡ rows_say head number) {d : Result ⊤ Refusal} (judged : d ≡ judged_by (unpacked entry) r p) where
+    pub passes : d ≡ Ok tt → Passes
+    passes h = passes-by (listed_of head number) refl (rw says at (sym judged ∙ h))
 
-    pub refuses : (why : Refusal) → judged_by (unpacked entry) r p ≡ Refused why → verdict_of r head number p ≡ Refuse why
-    refuses why h = refuses-by (listed_of head number) refl why (rw says at h)
+    pub refuses : (why : Refusal) → d ≡ Err why → verdict_of r head number p ≡ Refuse why
+    refuses why h = refuses-by (listed_of head number) refl why (rw says at (sym judged ∙ h))
 
   -- which number alone calls
   pub calls : Passes → Calls number (length p)
   calls w = (w.0, named-is head number w.0 w.1, w.2)
 
-  pub ranged : (w : Passes) (x : Range) → range_of w.0 p ≡ x → verdict_of r head number p ≡ by_range x (Do w.0)
-  ranged w x e = rw (verdict-is r head number p, w.1, w.2, w.3, e) refl
+  pub ranged : (w : Passes) (v : Verdict) → by_range (range_of w.0 p) (Do w.0) ≡ v → verdict_of r head number p ≡ v
+  ranged w v e = rw (verdict-is r head number p, w.1, w.2, w.3) e
 
 -- ---- what a command leaves
 
@@ -125,7 +128,7 @@ module _ (s : List ℕ) (sound : Sound s) (head number : ℕ) (p : List ℕ) whe
     held_by : (f : Record → Record) → (step_by r head number p).after ≡ f r → (t : List ℕ) → Turns s t f → Holds (step_by r head number p).after t
     held_by f a t g = rw a (turn_holds r s sound t f g (rw (← a) (by_in r head number p b sound.fit)))
 
-    pub acts-denied : (why : Refusal) → verdict_of r head number p ≡ Refuse why → (t : List ℕ) → Turns s t (λ x. left_by why x) → Acts r head number p before at (Denied why) t before
+    pub acts-denied : (why : Refusal) → verdict_of r head number p ≡ Refuse why → (t : List ℕ) → Turns s t (λ x. left_by why x) → Acts r head number p before at (Err why) t before
     acts-denied why e t g =
         let q = step-of (Refuse why) e in
         let body : (step_by r head number p).reply.body ≡ [] = ap (λ (x : Step). x.reply.body) q in
@@ -136,34 +139,16 @@ module _ (s : List ℕ) (sound : Sound s) (head number : ℕ) (p : List ℕ) whe
         }
 
     module _ (w : Passes r head number p) where
-      pub acts-told : (n : ℕ) (t after : List ℕ) → Carried number s p before at (Told n) t after → Acts r head number p before at (Answered n) t after
-      acts-told n t after h =
+      pub acts : (d : Result ℕ Refusal) (t after : List ℕ) → Carried number s p before at d t after → Acts r head number p before at d t after
+      acts (Ok n) t after h =
           let c = w.0 in
           let d = h c (named-is head number c w.1) in
-          let q = step-of (Do c) (ranged r head number p w Fits d.0) in
+          let q = step-of (Do c) (ranged r head number p w (Do c) (rw d.0 refl)) in
           let body : (step_by r head number p).reply.body ≡ data_of c r p = ap (λ (x : Step). x.reply.body) q in
           record { held = held_by (λ x. effect_of c x p) (ap (λ (x : Step). x.after) q) t d.1; status = ap (λ (x : Step). x.reply.status) q; told = rw body d.2 }
-
-      -- out of range nothing is written
-      denied : (x : Range) (why : Refusal) → by_range x (Do w.0) ≡ Refuse why → ((z : Record) → left_by why z ≡ z) → (t after : List ℕ) → Carried number s p before at (Missed x) t after
-          → Acts r head number p before at (Denied why) t after
-      denied x why v same t after h =
-          let c = w.0 in
-          let d = h c (named-is head number c w.1) in
-          rw (d.2, d.3) (acts-denied why (ranged r head number p w x d.0 ∙ v) s (λ z i e. e ∙ ap bytes_of (sym (same z))))
-
-      pub acts-small : (x : Range) → x ≡ Small → (t after : List ℕ) → Carried number s p before at (Missed x) t after → Acts r head number p before at (Denied TooSmall) t after
-      unfolding left_by
-      acts-small x e t after h = denied x TooSmall (rw e refl) (λ z. refl) t after h
-
-      pub acts-big : (x : Range) → (x ≡ Small → ⊥) → (t after : List ℕ) → Carried number s p before at (Missed x) t after → Acts r head number p before at (Denied TooBig) t after
-      unfolding left_by
-      acts-big x k t after h = denied x TooBig (left x k (h w.0 (named-is head number w.0 w.1)).1) (λ z. refl) t after h
-        where
-          left : (x : Range) → (x ≡ Small → ⊥) → (x ≡ Fits → ⊥) → by_range x (Do w.0) ≡ Refuse TooBig
-          left Fits k f = absurd (f refl)
-          left Big k f = refl
-          left Small k f = absurd (k refl)
+      acts (Err why) t after h =
+          let d = h w.0 (named-is head number w.0 w.1) in
+          rw (d.1, d.2) (acts-denied why (ranged r head number p w (Refuse why) d.0) s (λ z i e. e ∙ ap bytes_of (sym (left-none why (no-code (range_of w.0 p) w.0 why d.0) z))))
 
 -- ---- a whole frame and its reply
 
@@ -174,7 +159,7 @@ part f = take (length f - 1 - 3) (drop 3 f)
 part-is : (f : List ℕ) → part f ≡ params_of f
 part-is f = let e : length f - 1 - 3 ≡ length f - 4 = omega arith in rw e refl
 
-module _ (r : Record) (f : List ℕ) {before : List ℕ} {at : ℕ} {a : Said} {kept mid : List ℕ} (acts : Acts r (head_of f) (number_of f) (part f) before at a kept mid) (room : at + frame_most ≤ length before) where
+module _ (r : Record) (f : List ℕ) {before : List ℕ} {at : ℕ} {a : Result ℕ Refusal} {kept mid : List ℕ} (acts : Acts r (head_of f) (number_of f) (part f) before at a kept mid) (room : at + frame_most ≤ length before) where
   kind-is : (step_of r f).reply.kind ≡ kind_of (head_of f)
   kind-is = ap (λ (y : Step). y.reply.kind) (step_is r f) ∙ by (verdict r f)
     where
@@ -186,7 +171,7 @@ module _ (r : Record) (f : List ℕ) {before : List ℕ} {at : ℕ} {a : Said} {
   step-as = step_by_lem r f ∙ rw (part-is f) refl
 
   -- the reply closed with the status and the count of what was said
-  pub carries : {status n end : ℕ} {after : List ℕ} {said : Said} → a ≡ said → status ≡ status_in said → n ≡ count_in said → (end ≡ at + 4 + n) × (after ≡ around mid at (get_or f 1 0) status n) → Carries r f before at end kept after
+  pub carries : {status n end : ℕ} {after : List ℕ} {said : Result ℕ Refusal} → a ≡ said → status ≡ status_in said → n ≡ count_in said → (end ≡ at + 4 + n) × (after ≡ around mid at (get_or f 1 0) status n) → Carries r f before at end kept after
   carries {status} {n} e st m q =
       let x : List ℕ = (step_of r f).reply.body in
       let d : PutsData before (at + 3) x n mid = rw (m, ← e, step-as) acts.told in

@@ -1,5 +1,5 @@
 -- Inner contract: what carrying out one command leaves in the record's bytes and in the output.
-use Rattle.std.specs.Prelude.{ℕ, ◌+◌, ◌≤◌, ◌<◌, ◌≡◌, true, List, length, get_or}
+use Rattle.std.specs.Prelude.{ℕ, ◌+◌, ◌≤◌, ◌<◌, ◌≡◌, true, List, length, get_or, Result, Ok, Err}
 use Rattle.wire.specs.Sizes.{frame_most}
 use Rattle.wire.specs.Numbers.{put}
 use Rattle.wire.specs.Replies.{reply_bytes}
@@ -12,8 +12,6 @@ use Rattle.command.specs.Step.{step_by, step_of}
 use Rattle.command.specs.declared.Refusal.{Refusal}
 use Rattle.command.specs.declared.Refusal.TheVariants.{BadCode}
 use Rattle.data.specs.PutsData.{PutsData}
-use Rattle.carry.specs.declared.Said.{Said}
-use Rattle.carry.specs.declared.Said.TheVariants.{Answered, Denied}
 
 -- where a refusal counts a try, one is left to be counted
 abbrev pub Countable : Refusal → List ℕ → Type 0
@@ -24,22 +22,22 @@ abbrev pub Entered : ℕ → ℕ → Type 0
 Entered entry number = (is_tidy entry ≡ true) × ((head : ℕ) × (unpacked entry ≡ rows_say head number))
 
 -- status and number of data bytes of an answer
-abbrev pub status_in : Said → ℕ
-status_in (Answered n) = 0x00
-status_in (Denied why) = status_of why
+abbrev pub status_in : Result ℕ Refusal → ℕ
+status_in (Ok n) = 0x00
+status_in (Err why) = status_of why
 
-abbrev pub count_in : Said → ℕ
-count_in (Answered n) = n
-count_in (Denied why) = 0
+abbrev pub count_in : Result ℕ Refusal → ℕ
+count_in (Ok n) = n
+count_in (Err why) = 0
 
 -- a number under a head judged and carried out: the record that it leaves, and its data where the reply has them
-pub record Acts (r : Record) (head number : ℕ) (p before : List ℕ) (at : ℕ) (a : Said) (kept after : List ℕ) : Type 0 where
+pub record Acts (r : Record) (head number : ℕ) (p before : List ℕ) (at : ℕ) (a : Result ℕ Refusal) (kept after : List ℕ) : Type 0 where
   pub held : Holds (step_by r head number p).after kept
   pub status : (step_by r head number p).reply.status ≡ status_in a
   pub told : PutsData before (at + 3) (step_by r head number p).reply.body (count_in a) after
 
 -- under whatever head has the entry
-abbrev pub ActsBy : ℕ → ℕ → Record → List ℕ → List ℕ → ℕ → Said → List ℕ → List ℕ → Type 0
+abbrev pub ActsBy : ℕ → ℕ → Record → List ℕ → List ℕ → ℕ → Result ℕ Refusal → List ℕ → List ℕ → Type 0
 ActsBy entry number r p before at a kept after = (head : ℕ) → unpacked entry ≡ rows_say head number → Acts r head number p before at a kept after
 
 -- a whole frame carried out and answered

@@ -10,20 +10,11 @@ ghost use Rattle.command.specs.Step.{left_by};
 ghost use Rattle.carry.specs.Carry.{Countable, Entered, ActsBy, Carries};
 
 use buffer::reply::close_reply;
-use command::{Judged, Refusal};
+use command::Refusal;
 use effect::carry_out;
 use flags::count_try;
 use judge::judge;
-use ranged::Done;
 use table::{entry_of, status_of};
-use wire::Range;
-
-// What a command is answered: so many bytes of data, or why it is refused.
-#[derive(Drop)]
-pub enum Said {
-    Answered(usize),
-    Denied(Refusal),
-}
 
 // Only a wrong code leaves a trace: a try more.
 fn refuse_on(rec: &mut [u8], why: Refusal)
@@ -38,29 +29,24 @@ fn refuse_on(rec: &mut [u8], why: Refusal)
 }
 
 // Judges a command by its entry of the table and carries it out; its data come to stand where a reply that begins at a place has them.
-pub fn act(entry: u8, rec: &mut [u8], number: u8, p: &[u8], out: &mut [u8], at: usize) -> Said
+pub fn act(
+    entry: u8,
+    rec: &mut [u8],
+    number: u8,
+    p: &[u8],
+    out: &mut [u8],
+    at: usize,
+) -> Result<usize, Refusal>
     requires sound { Sound rec.old }
     requires entered { Entered entry number }
     requires frame_most_in_bounds { at + frame_most ≤ length out.old }
     ensures { ActsBy entry number (record_of rec.old) p.now out.old at result rec.new out.new }
 {
-    let judged = judge(entry, rec, p);
-    match judged {
-        Judged::Refused(why) => {
-            refuse_on(rec, why);
-            Said::Denied(why)
-        }
-        Judged::Passed => {
-            let done = carry_out(rec, number, p, out, at);
-            match done {
-                Done::Told(n) => Said::Answered(n),
-                Done::Missed(range) => match range {
-                    Range::Small => Said::Denied(Refusal::TooSmall),
-                    _ => Said::Denied(Refusal::TooBig),
-                },
-            }
-        }
+    if let Err(why) = judge(entry, rec, p) {
+        refuse_on(rec, why);
+        return Err(why);
     }
+    carry_out(rec, number, p, out, at)
 }
 
 // Carries out a whole frame and writes the reply at a place; returns the place behind it.
@@ -77,13 +63,13 @@ pub fn carry(rec: &mut [u8], frame: &[u8], out: &mut [u8], at: usize) -> usize
     let entry = entry_of(head, number);
     let said = act(entry, rec, number, p, out, at);
     match said {
-        Said::Answered(n) => {
+        Ok(n) => {
             // Most replies have no data: the compiler makes a shorter path for them.
             if n == 0 {
                 return close_reply(out, at, head, 0, 0);
             }
             close_reply(out, at, head, 0, n)
         }
-        Said::Denied(why) => close_reply(out, at, head, status_of(why), 0),
+        Err(why) => close_reply(out, at, head, status_of(why), 0),
     }
 }

@@ -32,7 +32,7 @@ pub enum Listed {
     Unlisted,
 }
 
-// What an entry of the table says of its number.
+// What an entry of the table says of its number. A rule of the project: each check answers an enum of its own, taken on by `let .. else`.
 #[derive(Clone, Copy)]
 pub enum Numbered {
     AsCommand,
@@ -40,7 +40,7 @@ pub enum Numbered {
     AsUnknown,
 }
 
-// Whether the number of parameters is one that the command takes.
+// Whether the number of parameters is one that the command takes. An enum and no bool, as each check answers one.
 #[derive(Clone, Copy)]
 pub enum Counted {
     Right,
@@ -57,7 +57,7 @@ pub enum Need {
     Code,
 }
 
-// Whether the board gives it.
+// Whether the board gives it. An enum of its own, as each check answers one.
 #[derive(Clone, Copy)]
 pub enum Access {
     Given,
@@ -77,16 +77,9 @@ pub enum Refusal {
     TooSmall,
 }
 
-// What becomes of a frame; the definitions' word.
+// What becomes of a frame; the definitions' word, of which the theorems speak: no function makes one, so it stays no `Result`.
 #[derive(Clone, Copy)]
 pub enum Verdict {
     Do(Command),
     Refuse(Refusal),
-}
-
-// What the checks that an entry decides say of it: number, count and access.
-#[derive(Clone, Copy)]
-pub enum Judged {
-    Passed,
-    Refused(Refusal),
 }

@@ -1,4 +1,5 @@
 -- In the arm of a number: which command it is, and what that command leaves.
+use Rattle.std.specs.Prelude.{Result, Ok, Err}
 use Prim.Native.Nat.{ℕ, ◌+◌, ◌≤◌}
 use mathlib.Core.Path.{◌≡◌, refl, sym, subst, ap, ◌∙◌}
 use mathlib.Core.List.{List, [], ◌∷◌}
@@ -13,6 +14,7 @@ use Rattle.record.specs.Settings.{setting_width}
 use Rattle.record.proofs.SettingLaws.{widths}
 use Rattle.command.specs.declared.Command.{Command}
 use Rattle.command.specs.declared.Command.TheVariants.{Open, Close, Read, Set, ReadName, SetName, SetInput, ReadInput, SwitchOutput, Unlock, ReadLock, ReadModel, SetModel, StopSending, StartSending, ReadPair}
+use Rattle.command.specs.declared.Refusal.{Refusal}
 use Rattle.command.specs.declared.Listed.TheVariants.{Built}
 use Rattle.command.specs.declared.Counted.TheVariants.{Right}
 use Rattle.command.specs.Rows.{numbers_of, row_of}
@@ -20,8 +22,6 @@ use Rattle.command.specs.Tables.{named_by, span_of, counted_of}
 use Rattle.command.specs.Effects.{effect_of, data_of}
 use Rattle.command.proofs.Named.{row_number}
 use Rattle.command.proofs.Keep.{counted-span}
-use Rattle.ranged.specs.declared.Done.{Done}
-use Rattle.ranged.specs.declared.Done.TheVariants.{Told, Missed}
 use Rattle.ranged.specs.Done.{Stores, Tells}
 use Rattle.effect.specs.Carried.{Calls, Does, Carried}
 
@@ -34,21 +34,25 @@ module _ (number : ℕ) (k : Command) (named : named_by number ≡ Built k) wher
   pub counted : (n : ℕ) → Calls number n → counted_of k n ≡ Right
   counted n h = subst (λ (c : Command). counted_of c n ≡ Right) (sym (only h.0 h.1)) h.2
 
-  module _ (s p before : List ℕ) (at : ℕ) (d : Done) (t after : List ℕ) where
-    pub carried : Does k s p before at d t after → Carried number s p before at d t after
-    carried h c e = subst (λ (x : Command). Does x s p before at d t after) (only c e) h
+  module _ (s p before : List ℕ) (at : ℕ) where
+    pub carried : (d : Result ℕ Refusal) (t after : List ℕ) → Does k s p before at d t after → Carried number s p before at d t after
+    carried d t after h c e = subst (λ (x : Command). Does x s p before at d t after) (only c e) h
 
--- ---- a command that only changes, or only reads
+    -- a command that only changes: no data
+    pub stored : data_of k (record_of s) p ≡ [] → (d : Result ℕ Refusal) (t : List ℕ) → Stores k s p d t → Carried number s p before at d t before
+    stored none d t h = carried d t before (does d h)
+      where
+        does : (d : Result ℕ Refusal) → Stores k s p d t → Does k s p before at d t before
+        does (Ok n) h = (h.0, h.1, rw (none, h.2) (refl, omega arith, sym (put-nil before (at + 3))))
+        does (Err why) h = (h.0, h.1, refl)
 
-module _ (c : Command) (s p before : List ℕ) (at : ℕ) where
-  -- no data
-  pub stored : data_of c (record_of s) p ≡ [] → (d : Done) (t : List ℕ) → Stores c s p d t → Does c s p before at d t before
-  stored none (Told n) t h = (h.0, h.1, rw (none, h.2) (refl, omega arith, sym (put-nil before (at + 3))))
-  stored none (Missed x) t h = (h.0, h.1, h.2, refl)
-
-  pub told : ((r : Record) → effect_of c r p ≡ r) → (d : Done) (after : List ℕ) → Tells c s p before at d after → Does c s p before at d s after
-  told same (Told n) after h = (h.0, λ r i e. e ∙ ap bytes_of (sym (same r)), h.1)
-  told same (Missed x) after h = (h.0, h.1, refl, h.2)
+    -- one that only reads
+    pub told : ((r : Record) → effect_of k r p ≡ r) → (d : Result ℕ Refusal) (after : List ℕ) → Tells k s p before at d after → Carried number s p before at d s after
+    told same d after h = carried d s after (does d h)
+      where
+        does : (d : Result ℕ Refusal) → Tells k s p before at d after → Does k s p before at d s after
+        does (Ok n) h = (h.0, λ r i e. e ∙ ap bytes_of (sym (same r)), h.1)
+        does (Err why) h = (h.0, refl, h.1)
 
 -- ---- what is left for settings
 

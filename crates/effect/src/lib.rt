@@ -6,17 +6,20 @@ ghost use Rattle.wire.specs.Sizes.{frame_most};
 ghost use Rattle.record.specs.InPlace.{Sound};
 ghost use Rattle.effect.specs.Carried.{Calls, Carried};
 
+use command::Refusal;
 use data::{put_lock, put_model, put_name, put_two};
 use flags::{close_mode, open_mode, start_sending, stop_sending, unlock};
 use parts::{clear_name, set_model};
 use ranged::{
-    Done, read_input, read_pair, read_setting, write_input, write_name, write_output, write_setting,
+    read_input, read_pair, read_setting, write_input, write_name, write_output, write_setting,
 };
 use record::places::{AT_FLAGS, AT_MODEL};
 
+// A rule of the project: in code a command is the arm of its number, so no enum of the commands is made first.
+
 // ---- without parameters
 
-fn bare(rec: &mut [u8], number: u8, out: &mut [u8], at: usize) -> Done
+fn bare(rec: &mut [u8], number: u8, out: &mut [u8], at: usize) -> Result<usize, Refusal>
     requires sound { Sound rec.old }
     requires calls { Calls number 0 }
     requires frame_most_in_bounds { at + frame_most ≤ length out.old }
@@ -25,26 +28,26 @@ fn bare(rec: &mut [u8], number: u8, out: &mut [u8], at: usize) -> Done
     match number {
         0xE0 => {
             open_mode(rec);
-            Done::Told(put_two(out, at + 3, 0x00, 0x14))
+            Ok(put_two(out, at + 3, 0x00, 0x14))
         }
         0xE1 => {
             close_mode(rec);
-            Done::Told(0)
+            Ok(0)
         }
-        0xE8 => Done::Told(put_name(out, at + 3, rec)),
+        0xE8 => Ok(put_name(out, at + 3, rec)),
         0xE9 => {
             clear_name(rec);
-            Done::Told(0)
+            Ok(0)
         }
-        0x1A => Done::Told(put_lock(out, at + 3, rec[AT_FLAGS])),
-        0x1B => Done::Told(put_model(out, at + 3, rec, AT_MODEL)),
+        0x1A => Ok(put_lock(out, at + 3, rec[AT_FLAGS])),
+        0x1B => Ok(put_model(out, at + 3, rec, AT_MODEL)),
         0x23 => {
             stop_sending(rec);
-            Done::Told(0)
+            Ok(0)
         }
         0x24 => {
             start_sending(rec);
-            Done::Told(0)
+            Ok(0)
         }
         _ => read_setting(rec, number, out, at),
     }
@@ -52,7 +55,7 @@ fn bare(rec: &mut [u8], number: u8, out: &mut [u8], at: usize) -> Done
 
 // ---- with parameters
 
-fn full(rec: &mut [u8], number: u8, p: &[u8], out: &mut [u8], at: usize) -> Done
+fn full(rec: &mut [u8], number: u8, p: &[u8], out: &mut [u8], at: usize) -> Result<usize, Refusal>
     requires sound { Sound rec.old }
     requires in_bounds { (1 ≤ length p.now) × Calls number (length p.now) }
     requires frame_most_in_bounds { at + frame_most ≤ length out.old }
@@ -65,11 +68,11 @@ fn full(rec: &mut [u8], number: u8, p: &[u8], out: &mut [u8], at: usize) -> Done
         0xF1 => write_output(rec, p),
         0x19 => {
             unlock(rec);
-            Done::Told(0)
+            Ok(0)
         }
         0x1C => {
             set_model(rec, AT_MODEL, p);
-            Done::Told(0)
+            Ok(0)
         }
         0x53 => read_pair(rec, p, out, at),
         _ => write_setting(rec, number, p),
@@ -79,7 +82,13 @@ fn full(rec: &mut [u8], number: u8, p: &[u8], out: &mut [u8], at: usize) -> Done
 // ---- either
 
 // Carries out a command that passed the checks of its entry; its range is looked at here, where the command is known. The data stand three bytes behind the place.
-pub fn carry_out(rec: &mut [u8], number: u8, p: &[u8], out: &mut [u8], at: usize) -> Done
+pub fn carry_out(
+    rec: &mut [u8],
+    number: u8,
+    p: &[u8],
+    out: &mut [u8],
+    at: usize,
+) -> Result<usize, Refusal>
     requires sound { Sound rec.old }
     requires calls { Calls number (length p.now) }
     requires frame_most_in_bounds { at + frame_most ≤ length out.old }

@@ -12,6 +12,7 @@ use Rattle.wire.specs.Numbers.{word_at}
 use Rattle.record.specs.Record.{Record}
 use Rattle.record.specs.Layout.{FlagByte, Plan, place, at_flags, at_tries, at_code, flags_byte, bytes_in, bytes_of, bit_of}
 use Rattle.record.specs.Laid.{Laid}
+use Rattle.record.specs.Form.{InRange}
 use Rattle.record.specs.InPlace.{Sound, Shows, SoundAt, ShowsAt}
 use Rattle.record.proofs.Choices.{bits_back}
 use Rattle.record.proofs.Lens.{get-tries, get-code}
@@ -22,12 +23,13 @@ use Rattle.command.specs.declared.Command.TheVariants.{Open, Close, Read, Set, R
 use Rattle.command.specs.declared.Listed.{Listed}
 use Rattle.command.specs.declared.Numbered.{Numbered}
 use Rattle.command.specs.declared.Numbered.TheVariants.{AsCommand, AsNotBuilt, AsUnknown}
+use Rattle.command.specs.declared.Counted.{Counted}
 use Rattle.command.specs.declared.Counted.TheVariants.{Right, Wrong}
 use Rattle.command.specs.declared.Need.{Need}
 use Rattle.command.specs.declared.Need.TheVariants.{Nothing, Opened, Closed, Unlocked, Code}
 use Rattle.command.specs.declared.Access.{Access}
 use Rattle.command.specs.declared.Access.TheVariants.{Given, Missing, WrongCode}
-use Rattle.command.specs.declared.Judged.TheVariants.{Refused}
+use Rattle.std.specs.Prelude.{Err}
 use Rattle.command.specs.declared.Refusal.TheVariants.{Unknown, Unbuilt, Miscounted}
 use Rattle.command.specs.Rows.{Span, mode_for, numbers_of}
 use Rattle.command.specs.Tables.{Stands, listed_of, span_of, counted_in, counted_of, need_of}
@@ -91,6 +93,10 @@ flag-sound s = sound-at FlagByte at_flags refl refl s
 
 pub flag-here : (s : List ℕ) (v : Bool) (f : Record → Bool) → ShowsAt FlagByte at_flags s v f → Shows s v f
 flag-here s v f = here-shows FlagByte at_flags refl refl s v f
+
+-- what a flag that was found tells of the record
+pub flag-is : (s : List ℕ) {v x : Bool} (f : Record → Bool) → ShowsAt FlagByte at_flags s v f → v ≡ x → (r : Record) → InRange r → s ≡ bytes_of r → f r ≡ x
+flag-is s {v} f shows told r i e = sym (flag-here s v f shows r i e) ∙ told
 
 tries-at : (s : List ℕ) (r : Record) → s ≡ bytes_of r → get_or s at_tries 0 ≡ r.tries
 tries-at s r e = ap (λ (l : List ℕ). get_or l at_tries 0) e ∙ get-tries r
@@ -185,25 +191,28 @@ module _ (e : ℕ) where
 
 -- ---- what the entry e decides, from what its checks find, with the parameters p
 
-module _ (e : ℕ) (known : Known e) (p : List ℕ) where
+module _ (e : ℕ) (known : Known e) (p : List ℕ) {x : Numbered} (told : x ≡ numbered_by (unpacked e)) where
   abbrev row : Listed
   row = listed_of known.1.0 known.1.1
 
-  numbered : numbered_by (said_by row) ≡ numbered_by (unpacked e)
-  numbered = ap numbered_by (sym known.1.2)
+  numbered : numbered_by (said_by row) ≡ x
+  numbered = ap numbered_by (sym known.1.2) ∙ sym told
 
-  pub by-unbuilt : numbered_by (unpacked e) ≡ AsNotBuilt → (r : Record) → Refused Unbuilt ≡ judged_by (unpacked e) r p
+  pub by-unbuilt : x ≡ AsNotBuilt → (r : Record) → Err Unbuilt ≡ judged_by (unpacked e) r p
   unfolding judged_by
   by-unbuilt h r = rw (known.1.2, said-unbuilt row (numbered ∙ h)) refl
 
   -- the last answer of a check is the one that is left
-  pub by-unknown : (x : Numbered) → (x ≡ AsCommand → ⊥) → (x ≡ AsNotBuilt → ⊥) → numbered_by (unpacked e) ≡ x → (r : Record) → Refused Unknown ≡ judged_by (unpacked e) r p
+  pub by-unknown : (x ≡ AsCommand → ⊥) → (x ≡ AsNotBuilt → ⊥) → (r : Record) → Err Unknown ≡ judged_by (unpacked e) r p
   unfolding judged_by
-  by-unknown AsCommand h k q r = absurd (h refl)
-  by-unknown AsNotBuilt h k q r = absurd (k refl)
-  by-unknown AsUnknown h k q r = rw (known.1.2, said-unknown row (numbered ∙ q)) refl
+  by-unknown h k r = rw (known.1.2, said-unknown row (numbered ∙ left x h k)) refl
+    where
+      left : (x : Numbered) → (x ≡ AsCommand → ⊥) → (x ≡ AsNotBuilt → ⊥) → x ≡ AsUnknown
+      left AsCommand h k = absurd (h refl)
+      left AsNotBuilt h k = absurd (k refl)
+      left AsUnknown h k = refl
 
-  module _ (h : numbered_by (unpacked e) ≡ AsCommand) where
+  module _ (h : x ≡ AsCommand) {y : Counted} (counts : y ≡ counted_in (span_in e) (length p)) where
     stands : Stands row
     stands = said-command row (numbered ∙ h)
 
@@ -214,22 +223,22 @@ module _ (e : ℕ) (known : Known e) (p : List ℕ) where
     as-asked : unpacked e ≡ Asks (need_in e) (span_in e)
     as-asked = let w = asks-as in known.1.2 ∙ ap said_by stands.1 ∙ ap₂ Asks (sym w.1) (sym w.2)
 
-    pub by_count_lem : counted_in (span_in e) (length p) ≡ Wrong → (r : Record) → Refused Miscounted ≡ judged_by (unpacked e) r p
+    pub by_count_lem : y ≡ Wrong → (r : Record) → Err Miscounted ≡ judged_by (unpacked e) r p
     unfolding judged_by
-    by_count_lem n r = rw (as-asked, n) refl
+    by_count_lem n r = rw (as-asked, sym counts ∙ n) refl
 
-    module _ (n : counted_in (span_in e) (length p) ≡ Right) where
+    module _ (n : y ≡ Right) where
       counted-as : counted_of stands.0 (length p) ≡ Right
       unfolding counted_of
-      counted-as = ap (λ (s : Span). counted_in s (length p)) (sym asks-as.2) ∙ n
+      counted-as = ap (λ (s : Span). counted_in s (length p)) (sym asks-as.2) ∙ sym counts ∙ n
 
       pub may-ask : (is_built e ≡ true) × (is_tidy e ≡ true) × (asks (need_in e) ≤ length p)
       may-ask = let w = asks-as in (w.0, known.0, rw w.1 (asked stands.0 (length p) counted-as))
 
       -- the answer of the check of access
-      pub by-access : (x : Access) (r : Record) → access_of (need_in e) r p ≡ x → judged_access x ≡ judged_by (unpacked e) r p
+      pub by-access : {z : Access} (v : Access) (r : Record) → z ≡ access_of (need_in e) r p → z ≡ v → judged_access v ≡ judged_by (unpacked e) r p
       unfolding judged_by
-      by-access x r a = rw (as-asked, n, a) refl
+      by-access v r a w = rw (as-asked, sym counts ∙ n, sym a ∙ w) refl
 
 -- the last answer of that check
 pub left-missing : (x : Access) → (x ≡ Given → ⊥) → (x ≡ WrongCode → ⊥) → x ≡ Missing

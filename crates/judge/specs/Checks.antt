@@ -1,5 +1,5 @@
 -- Inner contract: what the checks of an entry read and say.
-use Rattle.std.specs.Prelude.{ℕ, ◌≡◌, true, List, length}
+use Rattle.std.specs.Prelude.{ℕ, ◌≡◌, true, List, length, Result, Ok, Err, ⊤}
 use Rattle.record.specs.Record.{Record}
 use Rattle.command.specs.declared.Need.{Need}
 use Rattle.command.specs.declared.Need.TheVariants.{Nothing, Opened, Closed, Unlocked, Code}
@@ -7,9 +7,8 @@ use Rattle.command.specs.declared.Counted.{Counted}
 use Rattle.command.specs.declared.Counted.TheVariants.{Right, Wrong}
 use Rattle.command.specs.declared.Access.{Access}
 use Rattle.command.specs.declared.Access.TheVariants.{Given, Missing, WrongCode}
+use Rattle.command.specs.declared.Refusal.{Refusal}
 use Rattle.command.specs.declared.Refusal.TheVariants.{Unknown, Unbuilt, Miscounted, NoAccess, BadCode}
-use Rattle.command.specs.declared.Judged.{Judged}
-use Rattle.command.specs.declared.Judged.TheVariants.{Passed, Refused}
 use Rattle.command.specs.Tables.{counted_in}
 use Rattle.command.specs.Entries.{Entry, SaysUnknown, SaysNotBuilt, Asks, is_tidy, rows_say, unpacked}
 use Rattle.command.specs.Judge.{access_of}
@@ -26,17 +25,17 @@ asks Code = 4
 abbrev pub Known : ℕ → Type 0
 Known e = (is_tidy e ≡ true) × ((head : ℕ) × (number : ℕ) × (unpacked e ≡ rows_say head number))
 
-abbrev pub judged_count : Counted → Judged → Judged
-judged_count Wrong next = Refused Miscounted
+abbrev pub judged_count : Counted → Result ⊤ Refusal → Result ⊤ Refusal
+judged_count Wrong next = Err Miscounted
 judged_count Right next = next
 
-abbrev pub judged_access : Access → Judged
-judged_access Missing = Refused NoAccess
-judged_access WrongCode = Refused BadCode
-judged_access Given = Passed
+abbrev pub judged_access : Access → Result ⊤ Refusal
+judged_access Missing = Err NoAccess
+judged_access WrongCode = Err BadCode
+judged_access Given = Ok tt
 
 -- the first check that does not pass, of those that an entry decides
-unfoldable pub judged_by : Entry → Record → List ℕ → Judged
-judged_by SaysUnknown r p = Refused Unknown
-judged_by SaysNotBuilt r p = Refused Unbuilt
+unfoldable pub judged_by : Entry → Record → List ℕ → Result ⊤ Refusal
+judged_by SaysUnknown r p = Err Unknown
+judged_by SaysNotBuilt r p = Err Unbuilt
 judged_by (Asks need span) r p = judged_count (counted_in span (length p)) (judged_access (access_of need r p))

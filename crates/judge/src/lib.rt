@@ -9,7 +9,7 @@ ghost use Rattle.command.specs.Entries.{need_in, is_built, is_tidy, unpacked};
 ghost use Rattle.command.specs.Judge.{access_of};
 ghost use Rattle.judge.specs.Checks.{asks, Known, judged_by};
 
-use command::{Access, Counted, Judged, Numbered, Refusal};
+use command::{Access, Counted, Numbered, Refusal};
 use numbers::word_at;
 use record::places::{AT_CODE, AT_FLAGS, AT_TRIES};
 use table::entries::{CLOSED, CODE, LOCK, OPENED};
@@ -86,7 +86,7 @@ fn check_access(entry: u8, rec: &[u8], p: &[u8]) -> Access
 }
 
 // What the entry of a number decides; the range is looked at where the command is known.
-pub fn judge(entry: u8, rec: &[u8], p: &[u8]) -> Judged
+pub fn judge(entry: u8, rec: &[u8], p: &[u8]) -> Result<(), Refusal>
     requires sound { Sound rec.now }
     requires known { Known entry }
     ensures { Shows rec.now result (λ b. judged_by (unpacked entry) b p.now) }
@@ -94,19 +94,19 @@ pub fn judge(entry: u8, rec: &[u8], p: &[u8]) -> Judged
     let numbered = check_number(entry);
     let Numbered::AsCommand = numbered else {
         return match numbered {
-            Numbered::AsNotBuilt => Judged::Refused(Refusal::Unbuilt),
-            _ => Judged::Refused(Refusal::Unknown),
+            Numbered::AsNotBuilt => Err(Refusal::Unbuilt),
+            _ => Err(Refusal::Unknown),
         };
     };
     let Counted::Right = check_count(entry, p.len()) else {
-        return Judged::Refused(Refusal::Miscounted);
+        return Err(Refusal::Miscounted);
     };
     let access = check_access(entry, rec, p);
     let Access::Given = access else {
         return match access {
-            Access::WrongCode => Judged::Refused(Refusal::BadCode),
-            _ => Judged::Refused(Refusal::NoAccess),
+            Access::WrongCode => Err(Refusal::BadCode),
+            _ => Err(Refusal::NoAccess),
         };
     };
-    Judged::Passed
+    Ok(())
 }

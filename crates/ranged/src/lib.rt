@@ -1,14 +1,19 @@
-// Commands whose range is looked at, and those of a setting, one function each: out of range nothing is written.
+// Commands whose range is looked at, and those of a setting, one function each, which tells how many bytes of data it put, or why it is refused: out of range nothing is written.
 #![tactic(auto)]
 
-ghost use Rattle.std.specs.Prelude.{◌≡◌, ◌+◌, ◌≤◌, length};
+ghost use Rattle.std.specs.Prelude.{◌≡◌, ◌≢◌, ◌+◌, ◌≤◌, length};
 ghost use Rattle.wire.specs.Sizes.{frame_most};
+ghost use Rattle.wire.specs.declared.Range.TheVariants.{Fits};
 ghost use Rattle.record.specs.InPlace.{Sound};
 ghost use Rattle.command.specs.declared.Command.TheVariants.{SetName, SetInput, ReadInput, SwitchOutput, ReadPair};
 ghost use Rattle.command.specs.declared.Counted.TheVariants.{Right};
 ghost use Rattle.command.specs.Tables.{counted_of};
+ghost use Rattle.command.specs.Judge.{by_range};
+ghost use Rattle.command.specs.declared.Verdict.{Verdict};
+ghost use Rattle.command.specs.declared.Verdict.TheVariants.{Refuse};
 ghost use Rattle.ranged.specs.Done.{Stores, Tells, IsRead, IsSet, TellsSetting, StoresSetting};
 
+use command::Refusal;
 use data::{put_input, put_pair, put_setting};
 use limits::place_of;
 use parts::set_name;
@@ -18,25 +23,29 @@ use settings::{set_input, store, switch_output};
 use table::setting_of;
 use wire::Range;
 
-// What became of it: carried out, with so many bytes of data, or a parameter out of its range.
-#[derive(Drop)]
-pub enum Done {
-    Told(usize),
-    Missed(Range),
+// Why a value is refused that is not in its range.
+fn refusal_of(range: Range) -> Refusal
+    requires { range ≢ Fits }
+    ensures { (next : Verdict) → by_range range next ≡ Refuse result }
+{
+    match range {
+        Range::Big => Refusal::TooBig,
+        _ => Refusal::TooSmall,
+    }
 }
 
 // ---- a setting
 
-pub fn read_setting(rec: &[u8], number: u8, out: &mut [u8], at: usize) -> Done
+pub fn read_setting(rec: &[u8], number: u8, out: &mut [u8], at: usize) -> Result<usize, Refusal>
     requires sound { Sound rec.now }
     requires read { IsRead number }
     requires frame_most_in_bounds { at + frame_most ≤ length out.old }
     ensures { TellsSetting number rec.now out.old at result out.new }
 {
-    Done::Told(put_setting(out, at + 3, rec, setting_of(number)))
+    Ok(put_setting(out, at + 3, rec, setting_of(number)))
 }
 
-pub fn write_setting(rec: &mut [u8], number: u8, p: &[u8]) -> Done
+pub fn write_setting(rec: &mut [u8], number: u8, p: &[u8]) -> Result<usize, Refusal>
     requires sound { Sound rec.old }
     requires set { IsSet number (length p.now) }
     ensures { StoresSetting number rec.old p.now result rec.new }
@@ -44,41 +53,43 @@ pub fn write_setting(rec: &mut [u8], number: u8, p: &[u8]) -> Done
     let k = setting_of(number);
     let range = setting_range(k, p);
     let Range::Fits = range else {
-        return Done::Missed(range);
+        return Err(refusal_of(range));
     };
     store(rec, place_of(k), k, p);
-    Done::Told(0)
+    Ok(0)
 }
 
 // ---- a part of its own
 
-pub fn write_name(rec: &mut [u8], p: &[u8]) -> Done
+// One form with each its functions. A rule of the project: a check's answer is taken on by `let .. else`, so no closure is handed to one function for all.
+
+pub fn write_name(rec: &mut [u8], p: &[u8]) -> Result<usize, Refusal>
     requires sound { Sound rec.old }
     requires p_value { counted_of SetName (length p.now) ≡ Right }
     ensures { Stores SetName rec.old p.now result rec.new }
 {
     let range = name_range(p);
     let Range::Fits = range else {
-        return Done::Missed(range);
+        return Err(refusal_of(range));
     };
     set_name(rec, p);
-    Done::Told(0)
+    Ok(0)
 }
 
-pub fn write_input(rec: &mut [u8], p: &[u8]) -> Done
+pub fn write_input(rec: &mut [u8], p: &[u8]) -> Result<usize, Refusal>
     requires sound { Sound rec.old }
     requires p_value { counted_of SetInput (length p.now) ≡ Right }
     ensures { Stores SetInput rec.old p.now result rec.new }
 {
     let range = input_range(p);
     let Range::Fits = range else {
-        return Done::Missed(range);
+        return Err(refusal_of(range));
     };
     set_input(rec, p[0], p[1]);
-    Done::Told(0)
+    Ok(0)
 }
 
-pub fn read_input(rec: &[u8], p: &[u8], out: &mut [u8], at: usize) -> Done
+pub fn read_input(rec: &[u8], p: &[u8], out: &mut [u8], at: usize) -> Result<usize, Refusal>
     requires sound { Sound rec.now }
     requires p_value { counted_of ReadInput (length p.now) ≡ Right }
     requires frame_most_in_bounds { at + frame_most ≤ length out.old }
@@ -86,25 +97,25 @@ pub fn read_input(rec: &[u8], p: &[u8], out: &mut [u8], at: usize) -> Done
 {
     let range = channel_range(p);
     let Range::Fits = range else {
-        return Done::Missed(range);
+        return Err(refusal_of(range));
     };
-    Done::Told(put_input(out, at + 3, rec, p[0]))
+    Ok(put_input(out, at + 3, rec, p[0]))
 }
 
-pub fn write_output(rec: &mut [u8], p: &[u8]) -> Done
+pub fn write_output(rec: &mut [u8], p: &[u8]) -> Result<usize, Refusal>
     requires sound { Sound rec.old }
     requires p_value { counted_of SwitchOutput (length p.now) ≡ Right }
     ensures { Stores SwitchOutput rec.old p.now result rec.new }
 {
     let range = output_range(p);
     let Range::Fits = range else {
-        return Done::Missed(range);
+        return Err(refusal_of(range));
     };
     switch_output(rec, p[0], p[1]);
-    Done::Told(0)
+    Ok(0)
 }
 
-pub fn read_pair(rec: &[u8], p: &[u8], out: &mut [u8], at: usize) -> Done
+pub fn read_pair(rec: &[u8], p: &[u8], out: &mut [u8], at: usize) -> Result<usize, Refusal>
     requires sound { Sound rec.now }
     requires p_value { counted_of ReadPair (length p.now) ≡ Right }
     requires frame_most_in_bounds { at + frame_most ≤ length out.old }
@@ -112,7 +123,7 @@ pub fn read_pair(rec: &[u8], p: &[u8], out: &mut [u8], at: usize) -> Done
 {
     let range = pair_range(p);
     let Range::Fits = range else {
-        return Done::Missed(range);
+        return Err(refusal_of(range));
     };
-    Done::Told(put_pair(out, at + 3, rec, AT_PAIRS, p[0]))
+    Ok(put_pair(out, at + 3, rec, AT_PAIRS, p[0]))
 }

@@ -7,8 +7,8 @@ use Rattle.command.specs.Step.{left_by}
 use Rattle.carry.proofs.Acted.{left-none, left_as}
 use Rattle.carry.proofs.refuse_on.Goals as goal
 
-pub count_try-requires : goal.count_try-requires
-count_try-requires c = record { sound_at = sound-at TriesByte at_tries refl refl _ c.requires.sound; at_tries_bound = c.requires.countable c.in-BadCode.is }
+pub count_try-requires-clause-sound_at : goal.count_try-requires-clause-sound_at
+count_try-requires-clause-sound_at c = sound-at TriesByte at_tries refl refl _ c.requires.sound
 
 pub returns-in-BadCode : goal.returns-in-BadCode
 unfolding left_by

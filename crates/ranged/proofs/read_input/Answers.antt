@@ -1,13 +1,11 @@
 -- `read_input`: in range the data are put, out of range nothing is.
-use native.Mathlib.Omega.{arith}
-use mathlib.Core.Path.{sym, ◌∙◌}
-use lib.ListN.{length}
+use Rattle.std.proofs.Common.{◌∙◌, sym, refl, length, arith}
+use Rattle.record.specs.Layout.{record_of}
 use Rattle.record.proofs.InPlaceLaws.{sound-long}
 use Rattle.command.specs.declared.Command.TheVariants.{ReadInput}
 use Rattle.command.specs.Tables.{span_of, range_of}
+use Rattle.command.specs.Effects.{data_of}
 use Rattle.command.proofs.Keep.{counted-span}
-use Rattle.command.proofs.Admitted.{read-input-channel}
-use Rattle.ranged.proofs.Rows.{missed-channel, tells-input}
 use Rattle.ranged.proofs.read_input.Goals as goal
 
 pub channel_range-range-requires : goal.channel_range-range-requires
@@ -15,17 +13,12 @@ unfolding span_of
 channel_range-range-requires c = (counted-span ReadInput (length c.args.p.now) c.requires.p_value).0
 
 pub returns-in_default : goal.returns-in_default
-returns-in_default c = missed-channel c.args.rec.now c.args.p.now c.channel_range-range.result c.in_default.not-Fits c.args.out.now c.args.at c.channel_range-range.ensures
-
-pub bounds-p-0 : goal.bounds-p-0
-unfolding span_of
-bounds-p-0 c = omega (arith, (counted-span ReadInput (length c.args.p.now) c.requires.p_value).0)
-
-pub put_input-requires : goal.put_input-requires
 unfolding range_of
-put_input-requires c =
-    let long = sound-long c.args.rec.now c.requires.sound in
-    record { at_inputs_in_bounds = (omega (arith, long), omega (arith, c.requires.frame_most_in_bounds)); le_channel = read-input-channel c.args.p.now (sym c.channel_range-range.ensures ∙ c.in-Fits.is) }
+returns-in_default c = (rw (sym c.channel_range-range.ensures) (c.refusal_of.ensures _), refl)
+
+pub put_input-requires-clause-at_inputs_in_bounds : goal.put_input-requires-clause-at_inputs_in_bounds
+put_input-requires-clause-at_inputs_in_bounds c = (omega (arith, sound-long c.args.rec.now c.requires.sound), omega (arith, c.requires.frame_most_in_bounds))
 
 pub returns : goal.returns
-returns c = tells-input c.args.rec.now c.args.p.now c.args.out.now c.args.at c.put_input.result c.put_input.new.out (sym c.channel_range-range.ensures ∙ c.in-Fits.is) c.put_input.ensures
+unfolding range_of data_of record_of
+returns c = (sym c.channel_range-range.ensures ∙ c.in-Fits.is, c.put_input.ensures)
