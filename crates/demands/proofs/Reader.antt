@@ -18,7 +18,7 @@ use Rattle.wire.proofs.SerialLaws.{size-other}
 use Rattle.wire.proofs.ReaderLaws.{third-long, third-measuring, third-other, reader-is, read-alone, read-unsaid, read-third, read-reply, read_none, read-torn, read-frame}
 use Rattle.wire.proofs.EntryLaws.{length-list, entries-put}
 use Rattle.wire.proofs.PutLaws.{put-zero, length-put}
-use Rattle.call.specs.declared.Ending.TheVariants.{BadLength, NoRoom}
+use Rattle.call.specs.declared.CallRefusal.TheVariants.{BadLength, NoRoom}
 use Rattle.call.specs.Reasons.{NoReason, EndsBy}
 use Rattle.call.specs.Read.{ReadOutcome, read_refused, read_causes, read_entries, after_read, read_call}
 use Rattle.call.proofs.InOrder.{DecidesAll, none_left, no-reason, ends}

@@ -13,7 +13,7 @@ use Rattle.peak.specs.Pairs.{finite, all_finite}
 use Rattle.peak.proofs.PairLaws.{finite-at}
 use Rattle.record.specs.Layout.{channels}
 use Rattle.record.specs.Form.{well_formed, form_by, form_of}
-use Rattle.call.specs.declared.Ending.{Ending}
+use Rattle.call.specs.declared.CallRefusal.{CallRefusal}
 use Rattle.call.specs.Outcome.{result_of, bad, cause}
 use Rattle.call.specs.Calls.{bad_record}
 use Rattle.call.specs.Reasons.{reason}
@@ -43,7 +43,7 @@ bad-by false = refl
 
 -- ---- each kind of test
 
-module _ (why : Ending) (number : result_of why ≢ 0) where
+module _ (why : CallRefusal) (number : result_of why ≢ 0) where
   pub below : (a b : ℕ) → Decides (cause (ltb a b) why) (reason (a < b) why)
   below a b = record { same = refl; number = number; yes = λ e. ltb-true a b e; no = λ e h. omega (arith, ltb-false a b e) }
 
@@ -81,7 +81,7 @@ stray-found sample e = let w = stray-from channels sample 0 e in (w.0, w.1, rw (
 none-stray : (sample : List ℕ) → all_finite channels sample 0 ≡ true → ¬ Stray sample
 none-stray sample e w = true≢false (sym (rw (zero-add (4 * w.0)) at (finite-at channels sample 0 w.0 e w.1)) ∙ w.2)
 
-pub stray : (why : Ending) → result_of why ≢ 0 → (sample : List ℕ) → Decides (cause (not (all_finite channels sample 0)) why) (reason (Stray sample) why)
+pub stray : (why : CallRefusal) → result_of why ≢ 0 → (sample : List ℕ) → Decides (cause (not (all_finite channels sample 0)) why) (reason (Stray sample) why)
 stray why number sample = record {
   same = refl;
   number = number;
