@@ -6,7 +6,6 @@ ghost use Rattle.wire.specs.Sizes.{frame_most};
 ghost use Rattle.wire.specs.Serial.{is_head, head_of};
 ghost use Rattle.record.specs.Layout.{record_of};
 ghost use Rattle.record.specs.InPlace.{Sound, Turns};
-ghost use Rattle.command.specs.Entries.{entries};
 ghost use Rattle.command.specs.Step.{left_by};
 ghost use Rattle.carry.specs.Carry.{Countable, Entered, ActsBy, Carries};
 
@@ -16,7 +15,6 @@ use effect::carry_out;
 use flags::count_try;
 use judge::judge;
 use ranged::Done;
-use table::entries::TABLE_SIZE;
 use table::{entry_of, status_of};
 use wire::Range;
 
@@ -66,14 +64,7 @@ pub fn act(entry: u8, rec: &mut [u8], number: u8, p: &[u8], out: &mut [u8], at: 
 }
 
 // Carries out a whole frame and writes the reply at a place; returns the place behind it.
-pub fn carry(
-    table: &[u8; TABLE_SIZE],
-    rec: &mut [u8],
-    frame: &[u8],
-    out: &mut [u8],
-    at: usize,
-) -> usize
-    requires table_value { table.now ≡ entries }
+pub fn carry(rec: &mut [u8], frame: &[u8], out: &mut [u8], at: usize) -> usize
     requires sound { Sound rec.old }
     requires in_bounds { (4 ≤ length frame.now) × (is_head (head_of frame.now) ≡ true) }
     requires frame_most_in_bounds { at + frame_most ≤ length out.old }
@@ -83,7 +74,7 @@ pub fn carry(
     let p = &frame[3..end];
     let head = frame[1];
     let number = frame[2];
-    let entry = entry_of(table, head, number);
+    let entry = entry_of(head, number);
     let said = act(entry, rec, number, p, out, at);
     match said {
         Said::Answered(n) => {

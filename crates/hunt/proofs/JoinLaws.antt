@@ -109,52 +109,66 @@ module _ (s : List ℕ) (sound : Sound s) where
 
 -- ---- the joined head of the pending bytes p and the input
 
-module _ (p input head : List ℕ) (held total : ℕ) (held-is : held ≡ length p) (j : Joins p input total head) where
+-- `held` bytes pending, `total` bytes in the joined head
+pub record Joined (p input head : List ℕ) (held total : ℕ) : Type 0 where
+  pub is : held ≡ length p
+  pub few : held ≤ wait_most
+  pub sum : total ≡ held + reached input
+  pub same : take total head ≡ p ++ take (reached input) input
+  pub long : length (take total head) ≡ total
+
+-- as `join` leaves it of the pending bytes in their place
+pub joined : {s input head : List ℕ} {held total : ℕ} → Sound s → held ≡ length (record_of s).pending → Joins (take held (drop at_pending s)) input total head → Joined (record_of s).pending input head held total
+joined {s} {input} {head} {held} {total} sound is raw =
+    let p : List ℕ = (record_of s).pending in
+    let j : Joins p input total head = subst (λ (q : List ℕ). Joins q input total head) (pending-part s sound held is) raw in
+    record {
+      is = is;
+      few = number-few s sound held is;
+      sum = omega (arith, is, j.0);
+      same = j.1;
+      long = ap length j.1 ∙ length-append p (take (reached input) input) ∙ rw (reach-long (reached input) input refl) (sym j.0);
+    }
+
+module _ {p input head : List ℕ} {held total : ℕ} (j : Joined p input head held total) {heads : Heads} {r : Record} {before : List ℕ} {h : Progress} {kept out : List ℕ} (f : Hunts heads r (take total head) before held 0 h kept out) where
   abbrev n : ℕ
   n = reached input
 
-  pub total-is : total ≡ held + n
-  total-is = omega (arith, held-is, j.0)
+  found : Hunts heads r (p ++ take n input) before (length p) 0 h kept out
+  found = subst (λ (x : ℕ). Hunts heads r (p ++ take n input) before x 0 h kept out) j.is (subst (λ (l : List ℕ). Hunts heads r l before held 0 h kept out) j.same f)
 
-  pub stream-long : length (take total head) ≡ total
-  stream-long = ap length j.1 ∙ length-append p (take n input) ∙ rw (reach-long n input refl) (sym j.0)
+  waiting-part : take (total - h.at) (drop h.at head) ≡ drop h.at (p ++ take n input)
+  waiting-part = sym (drop-take h.at total head) ∙ ap (drop h.at) j.same
 
-  module _ (heads : Heads) (r : Record) (before : List ℕ) (h : Progress) (kept out : List ℕ) (f : Hunts heads r (take total head) before held 0 h kept out) where
-    found : Hunts heads r (p ++ take n input) before (length p) 0 h kept out
-    found = subst (λ (x : ℕ). Hunts heads r (p ++ take n input) before x 0 h kept out) held-is (subst (λ (l : List ℕ). Hunts heads r l before held 0 h kept out) j.1 f)
+  module _ (ok : Huntable heads) (a : h.at < held) where
+    pub first-asks : SoundPending at_pending_length pending_room kept × ((length (take (total - h.at) (drop h.at head)) ≤ pending_room) × ((8 ≤ pending_room) × (pending_room ≤ 24)))
+    first-asks = roomed kept _ (
+      going-sound heads (take total head) before 0 r h.at h.skipped h.wrote kept out f.going,
+      rw waiting-part (omega (arith, head-short heads r p input before n refl h kept out found ok (rw j.is at a))),
+    )
 
-    pub first-kept : Sound kept
-    first-kept = going-sound heads (take total head) before 0 r h.at h.skipped h.wrote kept out f.going
+    pub serves-first : {kept' : List ℕ} → Turns kept kept' (λ z. with_pending z (take (total - h.at) (drop h.at head))) → ServesFor heads r (p ++ input) before (record { written = h.wrote; skipped = h.skipped }) kept' out
+    serves-first {kept'} t =
+        serves-head heads r p input before n refl h kept out found ok (rw j.is at a) kept' (subst (λ (x : List ℕ). Turns kept kept' (λ z. with_pending z x)) waiting-part t)
 
-    waiting-part : take (total - h.at) (drop h.at head) ≡ drop h.at (p ++ take n input)
-    waiting-part = sym (drop-take h.at total head) ∙ ap (drop h.at) j.1
+  module _ (past : held ≤ h.at) (room : room_for (length p + length input) ≤ length before) where
+    abbrev rest : List ℕ
+    rest = take (length input - (h.at - held)) (drop (h.at - held) input)
 
-    module _ (ok : Huntable heads) (a : h.at < held) where
-      pub short-first : length (take (total - h.at) (drop h.at head)) ≤ pending_room
-      short-first = rw waiting-part (omega (arith, head-short heads r p input before n refl h kept out found ok (rw held-is at a)))
+    past' : length p ≤ h.at
+    past' = omega (arith, j.is)
 
-      pub serves-first : (kept' : List ℕ) → Turns kept kept' (λ z. with_pending z (take (total - h.at) (drop h.at head))) → ServesFor heads r (p ++ input) before (record { written = h.wrote; skipped = h.skipped }) kept' out
-      serves-first kept' t =
-          serves-head heads r p input before n refl h kept out found ok (rw held-is at a) kept' (subst (λ (x : List ℕ). Turns kept kept' (λ z. with_pending z x)) waiting-part t)
+    rest-is : rest ≡ drop (h.at - length p) input
+    rest-is = part-rest input (h.at - held) ∙ rw j.is refl
 
-    module _ (past : held ≤ h.at) (room : room_for (length p + length input) ≤ length before) where
-      abbrev rest : List ℕ
-      rest = take (length input - (h.at - held)) (drop (h.at - held) input)
+    pub from-inside : h.at - held ≤ length input
+    from-inside = rw j.is (rest-starts heads r p input before n refl h kept out found past' room)
 
-      past' : length p ≤ h.at
-      past' = omega (arith, held-is)
+    pub rest-fits : h.wrote + room_for (length rest) ≤ length out
+    rest-fits = rw rest-is (rest-room heads r p input before n refl h kept out found past' room)
 
-      rest-is : rest ≡ drop (h.at - length p) input
-      rest-is = part-rest input (h.at - held) ∙ rw held-is refl
-
-      pub from-inside : h.at - held ≤ length input
-      from-inside = rw held-is (rest-starts heads r p input before n refl h kept out found past' room)
-
-      pub rest-fits : h.wrote + room_for (length rest) ≤ length out
-      rest-fits = rw rest-is (rest-room heads r p input before n refl h kept out found past' room)
-
-      pub serves-second : Huntable heads → (x : Progress) (kept₂ out₂ : List ℕ) → Rests heads (record_of kept) rest out h.wrote x kept₂ out₂
-          → ServesFor heads r (p ++ input) before (record { written = x.wrote; skipped = h.skipped + x.skipped }) kept₂ out₂
-      serves-second ok x kept₂ out₂ y =
-          let y' : Rests heads (record_of kept) (drop (h.at - length p) input) out h.wrote x kept₂ out₂ = subst (λ (l : List ℕ). Rests heads (record_of kept) l out h.wrote x kept₂ out₂) rest-is y in
-          serves-rest heads r p input before n refl h kept out found past' room x y'.mid out₂ y'.hunts ok kept₂ y'.turns
+    pub serves-second : Huntable heads → {x : Progress} {kept₂ out₂ : List ℕ} → Rests heads (record_of kept) rest out h.wrote x kept₂ out₂
+        → ServesFor heads r (p ++ input) before (record { written = x.wrote; skipped = h.skipped + x.skipped }) kept₂ out₂
+    serves-second ok {x} {kept₂} {out₂} y =
+        let y' : Rests heads (record_of kept) (drop (h.at - length p) input) out h.wrote x kept₂ out₂ = subst (λ (l : List ℕ). Rests heads (record_of kept) l out h.wrote x kept₂ out₂) rest-is y in
+        serves-rest heads r p input before n refl h kept out found past' room x y'.mid out₂ y'.hunts ok kept₂ y'.turns

@@ -6,7 +6,6 @@ ghost use Rattle.wire.specs.Sizes.{frame_most, wait_most, input_most, stream_mos
 ghost use Rattle.wire.specs.Serial.{heads_of};
 ghost use Rattle.record.specs.Layout.{pending_room, record_of};
 ghost use Rattle.record.specs.InPlace.{Sound};
-ghost use Rattle.command.specs.Entries.{entries};
 ghost use Rattle.command.specs.Hunt.{room_for};
 ghost use Rattle.hunt.specs.Progress.{Hunts, Rests, Joins, Serves};
 
@@ -14,7 +13,6 @@ use carry::carry;
 use finder::{Seen, find};
 use parts::set_pending;
 use record::places::{AT_PENDING, AT_PENDING_LENGTH, PENDING_ROOM};
-use table::entries::TABLE_SIZE;
 use wire::Line;
 use wire::sizes::{FRAME_MOST, JOIN_MOST};
 use words::put_few;
@@ -45,14 +43,12 @@ pub fn room_for(held: usize, len: usize) -> usize
 // Hunts through s, for the heads of a line, up to the first piece that begins at `until` or later; writes the replies from a place on.
 fn hunt_in(
     line: Line,
-    table: &[u8; TABLE_SIZE],
     rec: &mut [u8],
     s: &[u8],
     until: usize,
     out: &mut [u8],
     start: usize,
 ) -> Progress
-    requires table_value { table.now ≡ entries }
     requires sound { Sound rec.old }
     requires until_in_bounds { (until ≤ length s.now) × (length s.now ≤ stream_most) }
     requires s_in_bounds { start + room_for (length s.now) ≤ length out.old }
@@ -67,7 +63,7 @@ fn hunt_in(
         at = found.at;
         match seen {
             Seen::Frame(n) => {
-                wrote = carry(table, rec, &s[at..at + 4 + n], out, wrote);
+                wrote = carry(rec, &s[at..at + 4 + n], out, wrote);
                 at = at + 4 + n;
                 framed = framed + 4 + n;
                 continue 'hunt;
@@ -110,36 +106,21 @@ fn join(rec: &[u8], at: usize, held: usize, input: &[u8], head: &mut [u8]) -> us
 }
 
 // Hunts through all of a stream; what waits at its end becomes the pending bytes.
-fn hunt_rest(
-    line: Line,
-    table: &[u8; TABLE_SIZE],
-    rec: &mut [u8],
-    s: &[u8],
-    out: &mut [u8],
-    start: usize,
-) -> Progress
-    requires table_value { table.now ≡ entries }
+fn hunt_rest(line: Line, rec: &mut [u8], s: &[u8], out: &mut [u8], start: usize) -> Progress
     requires sound { Sound rec.old }
     requires s_len_bound { length s.now ≤ stream_most }
     requires s_in_bounds { start + room_for (length s.now) ≤ length out.old }
     ensures { Rests (heads_of line) (record_of rec.old) s.now out.old start result rec.new out.new }
 {
     let len = s.len();
-    let p = hunt_in(line, table, rec, s, len, out, start);
+    let p = hunt_in(line, rec, s, len, out, start);
     let at = p.at;
     set_pending(rec, AT_PENDING_LENGTH, PENDING_ROOM, &s[at..len]);
     p
 }
 
 // With pending bytes: first the candidates that start in them, then the input itself.
-fn serve_held(
-    table: &[u8; TABLE_SIZE],
-    rec: &mut [u8],
-    held: usize,
-    input: &[u8],
-    out: &mut [u8],
-) -> Counts
-    requires table_value { table.now ≡ entries }
+fn serve_held(rec: &mut [u8], held: usize, input: &[u8], out: &mut [u8]) -> Counts
     requires sound { Sound rec.old }
     requires held_value { held ≡ length (record_of rec.old).pending }
     requires input_len_bound { length input.now ≤ input_most }
@@ -148,7 +129,7 @@ fn serve_held(
 {
     let mut head = [0u8; JOIN_MOST];
     let total = join(rec, AT_PENDING, held, input, &mut head);
-    let first = hunt_in(Line::Board, table, rec, &head[..total], held, out, 0);
+    let first = hunt_in(Line::Board, rec, &head[..total], held, out, 0);
     let at = first.at;
     if at < held {
         set_pending(rec, AT_PENDING_LENGTH, PENDING_ROOM, &head[at..total]);
@@ -158,7 +139,7 @@ fn serve_held(
         };
     }
     let from = at - held;
-    let rest = hunt_rest(Line::Board, table, rec, &input[from..], out, first.wrote);
+    let rest = hunt_rest(Line::Board, rec, &input[from..], out, first.wrote);
     Counts {
         written: rest.wrote,
         skipped: first.skipped + rest.skipped,
@@ -166,8 +147,7 @@ fn serve_held(
 }
 
 // The whole of a bytes call that passed its checks. With no pending bytes there is nothing to join.
-pub fn serve(table: &[u8; TABLE_SIZE], rec: &mut [u8], input: &[u8], out: &mut [u8]) -> Counts
-    requires table_value { table.now ≡ entries }
+pub fn serve(rec: &mut [u8], input: &[u8], out: &mut [u8]) -> Counts
     requires sound { Sound rec.old }
     requires input_len_bound { length input.now ≤ input_most }
     requires input_in_bounds { room_for (length (record_of rec.old).pending + length input.now) ≤ length out.old }
@@ -175,11 +155,11 @@ pub fn serve(table: &[u8; TABLE_SIZE], rec: &mut [u8], input: &[u8], out: &mut [
 {
     let held = rec[AT_PENDING_LENGTH] as usize;
     if held == 0 {
-        let p = hunt_rest(Line::Board, table, rec, input, out, 0);
+        let p = hunt_rest(Line::Board, rec, input, out, 0);
         return Counts {
             written: p.wrote,
             skipped: p.skipped,
         };
     }
-    serve_held(table, rec, held, input, out)
+    serve_held(rec, held, input, out)
 }

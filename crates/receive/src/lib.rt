@@ -8,7 +8,6 @@ use call::check::checked;
 use call::{Answer, CallRefusal, Done};
 use hunt::{room_for, serve};
 use record::places::AT_PENDING_LENGTH;
-use table::entries::command_table;
 use wire::sizes::INPUT_MOST;
 
 // Carries out every whole frame of the pending bytes and the input; what waits becomes the new pending bytes.
@@ -23,12 +22,11 @@ fn received(rec: &mut [u8], input: &[u8], out: &mut [u8]) -> Result<Done, CallRe
     if out.len() < room_for(held, input.len()) {
         return Err(CallRefusal::NoRoom);
     }
-    // What waited goes on waiting, and no table is needed.
+    // What waited goes on waiting.
     if input.len() == 0 {
         return Ok(Done::default());
     }
-    let table = command_table();
-    let p = serve(&table, rec, input, out);
+    let p = serve(rec, input, out);
     let written = p.written as u32;
     let skipped = p.skipped as u32;
     Ok(Done { written, skipped })

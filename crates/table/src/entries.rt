@@ -1,7 +1,5 @@
 // One table for all command numbers, 256 entries for 9n and then 256 for An: each says unknown, not built, or what the
 // command needs of the board and how many parameters it takes. Bit 7 is free.
-ghost use Rattle.std.specs.Prelude.{◌≡◌};
-ghost use Rattle.command.specs.Entries.{entries};
 
 // No command.
 pub const UNKNOWN: u8 = 0x00;
@@ -44,7 +42,8 @@ pub const KIND_SIZE: usize = 256;
 
 pub const TABLE_SIZE: usize = 2 * KIND_SIZE;
 
-const ENTRIES: [u8; TABLE_SIZE] = [
+// A static is read where it lies; a constant array would be stored anew where it is named.
+pub static ENTRIES: [u8; TABLE_SIZE] = [
     // 9n: 00 to 0F
     UNKNOWN,
     UNKNOWN,
@@ -621,10 +620,3 @@ const ENTRIES: [u8; TABLE_SIZE] = [
     UNKNOWN,
     UNKNOWN,
 ];
-
-// The table, to be stored once in a call and lent from there: each mention of a constant array stores it anew.
-pub fn command_table() -> [u8; TABLE_SIZE]
-    ensures { result ≡ entries }
-{
-    ENTRIES
-}

@@ -3,12 +3,12 @@
 
 ghost use Rattle.std.specs.Prelude.{◌≡◌, true, ◌/◌, ◌<◌, eqb};
 ghost use Rattle.command.specs.Tables.{counted_in};
-ghost use Rattle.command.specs.Entries.{numbered_by, span_in, unpacked, is_tidy, rows_say, place_of, table_size, entries};
+ghost use Rattle.command.specs.Entries.{numbered_by, span_in, unpacked, is_tidy, rows_say, place_of, table_size};
 ghost use Rattle.command.specs.Judge.{status_of};
 ghost use Rattle.table.specs.Touched.{Touched};
 
 use command::{Counted, Numbered, Refusal};
-use entries::{FROM_0, KIND_SIZE, OPENED, SPANS, TABLE_SIZE, UNKNOWN};
+use entries::{ENTRIES, FROM_0, KIND_SIZE, OPENED, SPANS, UNKNOWN};
 use record::Setting;
 
 pub mod entries;
@@ -30,12 +30,10 @@ fn place_of(head: u8, number: u8) -> usize
 }
 
 // The entry of a number under a head.
-pub fn entry_of(table: &[u8; TABLE_SIZE], head: u8, number: u8) -> u8
-    requires { table.now ≡ entries }
+pub fn entry_of(head: u8, number: u8) -> u8
     ensures { (unpacked result ≡ rows_say head number) × (is_tidy result ≡ true) }
 {
-    let i = place_of(head, number);
-    table[i]
+    ENTRIES[place_of(head, number)]
 }
 
 // 40, 41: whether the number is that of a command.

@@ -43,7 +43,6 @@ carry-wrote-requires c =
     let on = framed-pass heads c.args.s.now c.args.out.now c.args.start r l.at l.framed l.wrote l.rec l.out l.invariant.0 l.invariant.1 c.find-found.result.at c.find-found.ensures.passed in
     let e = shown-frame heads c.args.s.now l.at c.args.until c.find-found.result c.find-found.ensures _ c.in-Frame.is in
     record {
-      table_value = c.requires.table_value;
       sound = going-sound heads c.args.s.now c.args.out.now c.args.start r _ _ l.wrote l.rec l.out on;
       in_bounds = going-frame heads c.args.s.now c.args.out.now c.args.start r _ _ l.wrote l.rec l.out on c.requires.s_in_bounds _ e (huntable c.args.line) (λ i. omega (arith, c.type_inv.s i));
       frame_most_in_bounds = going-room heads c.args.s.now c.args.out.now c.args.start r _ _ l.wrote l.rec l.out on c.requires.s_in_bounds _ e;

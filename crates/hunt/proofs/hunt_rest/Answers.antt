@@ -9,7 +9,7 @@ use Rattle.record.specs.Layout.{pending_room, at_pending_length}
 use Rattle.hunt.proofs.hunt_rest.Goals as goal
 
 pub hunt_in-p-requires : goal.hunt_in-p-requires
-hunt_in-p-requires c = record { table_value = c.requires.table_value; sound = c.requires.sound; until_in_bounds = (omega arith, c.requires.s_len_bound); s_in_bounds = c.requires.s_in_bounds }
+hunt_in-p-requires c = record { sound = c.requires.sound; until_in_bounds = (omega arith, c.requires.s_len_bound); s_in_bounds = c.requires.s_in_bounds }
 
 pub set_pending-requires : goal.set_pending-requires
 set_pending-requires c =

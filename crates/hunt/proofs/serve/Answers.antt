@@ -16,7 +16,7 @@ pub overflow_cast-held : goal.overflow_cast-held
 overflow_cast-held c = omega (arith, held-few c.args.rec.now c.requires.sound)
 
 pub hunt_rest-p-requires : goal.hunt_rest-p-requires
-hunt_rest-p-requires c = record { table_value = c.requires.table_value; sound = c.requires.sound; s_len_bound = omega (arith, c.requires.input_len_bound); s_in_bounds = omega (arith, c.requires.input_in_bounds) }
+hunt_rest-p-requires c = record { sound = c.requires.sound; s_len_bound = omega (arith, c.requires.input_len_bound); s_in_bounds = omega (arith, c.requires.input_in_bounds) }
 
 pub returns-then-held-eq0 : goal.returns-then-held-eq0
 returns-then-held-eq0 c =
@@ -27,4 +27,4 @@ returns-then-held-eq0 c =
     serves-board r z.input.now z.out.now _ _ _ (serves-input serial r r.pending z.input.now z.out.now (none) c.hunt_rest-p.result y.mid _ _ y.hunts y.turns)
 
 pub serve_held-requires : goal.serve_held-requires
-serve_held-requires c = record { table_value = c.requires.table_value; sound = c.requires.sound; held_value = held-is c.args.rec.now c.requires.sound; input_len_bound = c.requires.input_len_bound; input_in_bounds = c.requires.input_in_bounds }
+serve_held-requires c = record { sound = c.requires.sound; held_value = held-is c.args.rec.now c.requires.sound; input_len_bound = c.requires.input_len_bound; input_in_bounds = c.requires.input_in_bounds }
