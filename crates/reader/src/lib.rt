@@ -52,6 +52,7 @@ fn read_in(s: &[u8], list: &mut [u32]) -> ReadDone
     let mut at = 0;
     let mut entries = 0;
     let mut framed = 0;
+    // Counted by hand: each turn goes on by what stands there, and no iterator has such places.
     'read: while at < s.len() {
         if s[at] != 0xAA {
             at = next_aa(s, at, s.len());

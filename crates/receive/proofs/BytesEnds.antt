@@ -1,10 +1,11 @@
 -- Each way that the bytes call ends, as its outcome.
 use Prim.Native.Nat.{ℕ, ◌+◌, ◌≤◌, ◌<◌}
 use mathlib.Core.Path.{◌≡◌, refl, ap, ◌∙◌}
-use mathlib.Core.List.{List, [], ◌∷◌, ◌++◌}
+use mathlib.Core.List.{List, ◌++◌}
 use native.Mathlib.Omega.{arith}
 use lib.ListN.{length, get_or, length-append}
 use borrow.Author.Tests.{lt-ltb, le-ltb}
+use Rattle.std.proofs.lemmas.List.{nil_from_length}
 use Rattle.wire.specs.Sizes.{input_most, stream_most}
 use Rattle.wire.specs.Numbers.{Bytes}
 use Rattle.wire.specs.Serial.{serial}
@@ -40,10 +41,6 @@ served-small s input o p t out sound b h f =
     let few = pending-short (record_of s).pending sound.fit.pending in
     (omega (arith, few, f.written_is, room-enough (record_of s) input b sound.fit), omega (arith, few, f.skipped_is, skipped-most (record_of s) input))
 
-none : (l : List ℕ) → length l ≡ 0 → l ≡ []
-none [] h = refl
-none (x ∷ l) h = absurd (omega arith)
-
 module _ (s input o : List ℕ) where
   pub bytes-bad-record : (why : CallRefusal) → BadForm s why → Leaves (bytes_call s input o) (no_counts why) s o
   bytes-bad-record why h = left (bytes-by s input o ∙ rw (h.0, h.1) refl)
@@ -62,7 +59,7 @@ module _ (s input o : List ℕ) where
         pub bytes-empty : Bytes s → length input ≡ 0 → Leaves (bytes_call s input o) (counts 0 0) s o
         bytes-empty bytes z =
             let k' : room_for (length (record_of s).pending + 0) ≤ length o = rw (held-is s sound, z) at k in
-            left (ap (λ (l : List ℕ). bytes_call s l o) (none input z) ∙ empty-input s o bytes (good-well s g) k')
+            left (ap (λ (l : List ℕ). bytes_call s l o) (nil_from_length input z) ∙ empty-input s o bytes (good-well s g) k')
 
         pub bytes-done : (p : Counts) (t out : List ℕ) → Serves (record_of s) input o p t out → Leaves (bytes_call s input o) (counts p.written p.skipped) t out
         bytes-done p t out f =
