@@ -18,8 +18,7 @@ use Rattle.record.specs.Form.{InRange, well_formed}
 use Rattle.record.proofs.RoundTrip.{in-range, write-back}
 use Rattle.command.specs.Step.{on_piece}
 use Rattle.command.specs.Hunt.{hunt_of, record_after, room_for}
-use Rattle.call.specs.declared.Ending.TheVariants.{Done}
-use Rattle.call.specs.Outcome.{refused}
+use Rattle.call.specs.Outcome.{counts}
 use Rattle.call.specs.Calls.{bytes_call}
 use Rattle.call.proofs.Unfolded.{bytes-by}
 use Rattle.call.proofs.Ends.{form-good}
@@ -37,7 +36,7 @@ nothing_written : replies_bytes [] ≡ []
 unfolding replies_bytes
 nothing_written = refl
 
-pub empty-input : (s o : List ℕ) → Bytes s → well_formed s ≡ true → room_for (length (record_of s).pending + 0) ≤ length o → bytes_call s [] o ≡ refused Done s o
+pub empty-input : (s o : List ℕ) → Bytes s → well_formed s ≡ true → room_for (length (record_of s).pending + 0) ≤ length o → bytes_call s [] o ≡ record { answer = counts 0 0; kept = s; output = o }
 empty-input s o b w room =
     bytes-by s [] o
     ∙ rw (form-good s w, le-ltb (length o) (room_for (length (record_of s).pending + 0)) room, idle (record_of s) (in-range s b w), kept-is (record_of s), nothing_written, write-back s b w, put-nil o 0) refl

@@ -14,13 +14,13 @@ use Rattle.record.specs.Layout.{current, record_size, bytes_of, record_of}
 use Rattle.record.specs.Form.{fields_in, all_fine, well_formed, fault_of, form_by, form_of}
 use Rattle.record.specs.Births.{factory, powered_on}
 use Rattle.record.specs.InPlace.{Sound, Turns}
-use Rattle.record.specs.declared.Form.TheVariants.{Good, Bad}
+use Rattle.record.specs.declared.Form.TheVariants.{Good}
 use Rattle.record.proofs.RoundTrip.{in-range, write-back}
-use Rattle.call.specs.declared.Answer.{Answer}
-use Rattle.call.specs.declared.Ending.TheVariants.{Done, BadRecord}
-use Rattle.call.specs.Outcome.{no_counts, refused, Leaves}
+use Rattle.call.specs.declared.CallRefusal.{CallRefusal}
+use Rattle.call.specs.declared.CallRefusal.TheVariants.{BadRecord}
+use Rattle.call.specs.Outcome.{no_counts, counts, Leaves}
 use Rattle.call.proofs.InOrder.{left}
-use Rattle.call.specs.Calls.{factory_call, power_on_call}
+use Rattle.call.specs.Calls.{BadForm, factory_call, power_on_call}
 use Rattle.call.proofs.Unfolded.{factory-by, power-on-by}
 
 -- ---- what the check's answer says of the bytes
@@ -47,18 +47,15 @@ good-sound s b e = record { fit = in-range s b (good-well s e); same = sym (writ
 
 -- ---- factory and power-on
 
-module _ (s : List ℕ) (a : Answer) where
-  pub factory-refuses : (length s ≡ record_size → ⊥) → a ≡ no_counts (BadRecord 0) → Leaves (factory_call s) a s []
-  factory-refuses h e = left (factory_call s) (refused (BadRecord 0) s []) (factory-by s ∙ rw (ne_eqb (length s) record_size h) refl) a s [] e refl refl
+module _ (s : List ℕ) where
+  pub factory-refuses : (length s ≡ record_size → ⊥) → Leaves (factory_call s) (no_counts (BadRecord 0)) s []
+  factory-refuses h = left (factory-by s ∙ rw (ne_eqb (length s) record_size h) refl)
 
-  pub factory-ends : length s ≡ record_size → (t : List ℕ) → t ≡ bytes_of factory → a ≡ no_counts Done → Leaves (factory_call s) a t []
-  factory-ends h t q e =
-      left (factory_call s) (refused Done (bytes_of factory) []) (factory-by s ∙ rw (eq-eqb (length s) record_size h, put-nil [] 0) refl) a t [] e q refl
+  pub factory-ends : length s ≡ record_size → (t : List ℕ) → t ≡ bytes_of factory → Leaves (factory_call s) (counts 0 0) t []
+  factory-ends h t q = left (factory-by s ∙ rw (eq-eqb (length s) record_size h, put-nil [] 0, q) refl)
 
-  pub power-on-refuses : form_of s ≡ Bad → (place : ℕ) → place ≡ fault_of s → a ≡ no_counts (BadRecord place) → Leaves (power_on_call s) a s []
-  power-on-refuses h place f e = left (power_on_call s) (refused (BadRecord place) s []) (power-on-by s ∙ rw (h, f) refl) a s [] e refl refl
+  pub power-on-refuses : (why : CallRefusal) → BadForm s why → Leaves (power_on_call s) (no_counts why) s []
+  power-on-refuses why h = left (power-on-by s ∙ rw (h.0, h.1) refl)
 
-  pub power-on-ends : Bytes s → form_of s ≡ Good → (t : List ℕ) → Turns s t (λ r. powered_on r) → a ≡ no_counts Done → Leaves (power_on_call s) a t []
-  power-on-ends b h t q e =
-      let sound = good-sound s b h in
-      left (power_on_call s) (refused Done (bytes_of (powered_on (record_of s))) []) (power-on-by s ∙ rw (h, put-nil [] 0) refl) a t [] e (q (record_of s) sound.fit sound.same) refl
+  pub power-on-ends : form_of s ≡ Good → Sound s → (t : List ℕ) → Turns s t (λ r. powered_on r) → Leaves (power_on_call s) (counts 0 0) t []
+  power-on-ends h sound t q = left (power-on-by s ∙ rw (h, put-nil [] 0, q (record_of s) sound.fit sound.same) refl)

@@ -4,15 +4,15 @@ use mathlib.Core.Path.{◌≡◌, refl, sym, ap, ◌∙◌}
 use mathlib.Core.Logic.{◌≢◌}
 use mathlib.Core.Bool.{Bool, true, false, cond}
 use mathlib.Core.List.{List, [], ◌∷◌}
-use Rattle.call.specs.declared.Ending.{Ending}
+use Rattle.call.specs.declared.CallRefusal.{CallRefusal}
 use Rattle.call.specs.declared.Answer.{Answer}
 use Rattle.call.specs.Outcome.{result_of, Outcome, refused, Cause, first_of, in_order, Leaves, Allows}
 use Rattle.call.specs.Reasons.{Reason, NoReason, Refuses, EndsBy}
 
 -- ---- an outcome left
 
-pub left : (z w : Outcome) → z ≡ w → (a : Answer) (kept output : List ℕ) → a ≡ w.answer → kept ≡ w.kept → output ≡ w.output → Leaves z a kept output
-left z w e a kept output p q r = record { answered = p ∙ sym (ap (λ (x : Outcome). x.answer) e); keeps = q ∙ sym (ap (λ (x : Outcome). x.kept) e); puts = r ∙ sym (ap (λ (x : Outcome). x.output) e) }
+pub left : {z : Outcome} {a : Answer} {kept output : List ℕ} → z ≡ record { answer = a; kept = kept; output = output } → Leaves z a kept output
+left e = record { answered = sym (ap (λ (x : Outcome). x.answer) e); keeps = sym (ap (λ (x : Outcome). x.kept) e); puts = sym (ap (λ (x : Outcome). x.output) e) }
 
 -- what a contract allows is the outcome that it names
 pub allowed-is : (z x : Outcome) → Allows z x → x ≡ z
@@ -24,7 +24,7 @@ abbrev pub None : List Cause → Type 0
 None [] = Unit {0}
 None (c ∷ causes) = (c.applies ≡ false) × None causes
 
-module _ (Z : Type 0) (refuse : Ending → Z) (z : Z) where
+module _ (Z : Type 0) (refuse : CallRefusal → Z) (z : Z) where
   pub none_left : (causes : List Cause) → None causes → first_of causes refuse z ≡ z
   none_left [] n = refl
   none_left (c ∷ causes) n = rw n.0 (none_left causes n.1)
@@ -44,11 +44,11 @@ module _ (Z : Type 0) (refuse : Ending → Z) (z : Z) where
         pick true e rest = refuses.0 e
         pick false e rest = rest (λ n. next (e, n))
 
-    every : ((why : Ending) → P (refuse why)) → (causes : List Cause) → Each causes
+    every : ((why : CallRefusal) → P (refuse why)) → (causes : List Cause) → Each causes
     every refuses [] = tt
     every refuses (c ∷ causes) = ((λ e. refuses c.why), every refuses causes)
 
-    pub in_order_lem : (causes : List Cause) → ((why : Ending) → P (refuse why)) → (None causes → P z) → P (first_of causes refuse z)
+    pub in_order_lem : (causes : List Cause) → ((why : CallRefusal) → P (refuse why)) → (None causes → P z) → P (first_of causes refuse z)
     in_order_lem causes refuses next = in-order-each causes (every refuses causes) next
 
 -- the same causes, as far as they are looked at
@@ -59,7 +59,7 @@ SameCauses (c ∷ causes) [] = ⊥
 SameCauses (c ∷ causes) (d ∷ others) = (c ≡ d) × (c.applies ≡ false → SameCauses causes others)
 
 -- the same of two boards
-module _ (R : Outcome → Outcome → Type 0) (s t o : List ℕ) (z w : Outcome) (refuses : (why : Ending) → R (refused why s o) (refused why t o)) where
+module _ (R : Outcome → Outcome → Type 0) (s t o : List ℕ) (z w : Outcome) (refuses : (why : CallRefusal) → R (refused why s o) (refused why t o)) where
   pub in-order-both : (causes others : List Cause) → SameCauses causes others → (None causes → R z w) → R (in_order causes s o z) (in_order others t o w)
   in-order-both [] [] same next = next tt
   in-order-both [] (d ∷ others) same next = absurd same
@@ -111,7 +111,7 @@ none-wrong [] (r ∷ reasons) d n = absurd d
 none-wrong (c ∷ causes) [] d n = absurd d
 none-wrong (c ∷ causes) (r ∷ reasons) d n = (d.0.no n.0, none-wrong causes reasons d.1 n.1)
 
-module _ (Z : Type 0) (refuse : Ending → Z) (z : Z) where
+module _ (Z : Type 0) (refuse : CallRefusal → Z) (z : Z) where
   refuses : (causes : List Cause) (reasons : List Reason) → DecidesAll causes reasons → Refuses reasons refuse (first_of causes refuse z)
   refuses [] [] d = tt
   refuses [] (r ∷ reasons) d = absurd d
@@ -122,7 +122,7 @@ module _ (Z : Type 0) (refuse : Ending → Z) (z : Z) where
   )
 
   -- a refusal has the number of its ending
-  module _ (result : Z → ℕ) (numbered : (why : Ending) → result (refuse why) ≡ result_of why) where
+  module _ (result : Z → ℕ) (numbered : (why : CallRefusal) → result (refuse why) ≡ result_of why) where
     ended-none : (causes : List Cause) (reasons : List Reason) → DecidesAll causes reasons → result (first_of causes refuse z) ≡ 0 → None causes
     ended-none [] [] d e = tt
     ended-none [] (r ∷ reasons) d e = absurd d

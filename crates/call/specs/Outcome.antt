@@ -1,26 +1,25 @@
 -- What a call over a record leaves: its answer, the record, the output buffer. Every such call is a total function to such an outcome.
-use Rattle.std.specs.Prelude.{ℕ, ◌≡◌, Bool, true, false, cond, List, [], ◌∷◌, length}
+use Rattle.std.specs.Prelude.{ℕ, ◌≡◌, Bool, true, false, cond, List, [], ◌∷◌, length, Result, Ok, Err}
 use Rattle.wire.specs.Numbers.{put}
 use Rattle.record.specs.Record.{Record}
 use Rattle.record.specs.Layout.{bytes_of}
 use Rattle.record.specs.declared.Form.{Form}
 use Rattle.record.specs.declared.Form.TheVariants.{Good, Bad}
-use Rattle.call.specs.declared.Ending.{Ending}
-use Rattle.call.specs.declared.Ending.TheVariants.{Done, BadRecord, BadLength, NoRoom, NotFinite}
+use Rattle.call.specs.declared.CallRefusal.{CallRefusal}
+use Rattle.call.specs.declared.CallRefusal.TheVariants.{BadRecord, BadLength, NoRoom, NotFinite}
+use Rattle.call.specs.declared.Done.{Done}
 use Rattle.call.specs.declared.Answer.{Answer}
 
--- the column "no." of the table of call results
-abbrev pub result_of : Ending → ℕ
-result_of Done = 0
+-- the column "no." of the table of call results, for a refusal; 0 is "done"
+abbrev pub result_of : CallRefusal → ℕ
 result_of (BadRecord place) = 1
 result_of BadLength = 2
 result_of NoRoom = 3
 result_of NotFinite = 4
 
 -- "the place is one more number beside the counts, 0 in all other answers"
-abbrev pub faulty_place : Ending → ℕ
+abbrev pub faulty_place : CallRefusal → ℕ
 faulty_place (BadRecord place) = place
-faulty_place Done = 0
 faulty_place BadLength = 0
 faulty_place NoRoom = 0
 faulty_place NotFinite = 0
@@ -33,26 +32,35 @@ pub record Outcome : Type 0 where
   pub kept : List ℕ
   pub output : List ℕ
 
--- an ending with zero counts
-abbrev pub no_counts : Ending → Answer
+-- a refusal with zero counts
+abbrev pub no_counts : CallRefusal → Answer
 no_counts why = record { result = result_of why; written = 0; skipped = 0; place = faulty_place why }
 
 -- "A refusal returns its number and zero counts, and writes to no buffer."; the input is lent for reading only
-abbrev pub refused : Ending → List ℕ → List ℕ → Outcome
+abbrev pub refused : CallRefusal → List ℕ → List ℕ → Outcome
 refused why s o = record { answer = no_counts why; kept = s; output = o }
 
--- "0 done; counts are bytes written and bytes skipped ..; output behind the written bytes is unchanged"
+-- "0 done; counts are bytes written and bytes skipped"
+abbrev pub counts : ℕ → ℕ → Answer
+counts written skipped = record { result = 0; written = written; skipped = skipped; place = 0 }
+
+-- "output behind the written bytes is unchanged"
 abbrev pub done : Record → List ℕ → ℕ → List ℕ → Outcome
-done r out skipped o = record { answer = record { result = result_of Done; written = length out; skipped = skipped; place = faulty_place Done }; kept = bytes_of r; output = put o 0 out }
+done r out skipped o = record { answer = counts (length out) skipped; kept = bytes_of r; output = put o 0 out }
+
+-- the answer to C: the counts of a call that is done, or what refuses it
+abbrev pub answer_of : Result Done CallRefusal → Answer
+answer_of (Ok d) = counts d.written d.skipped
+answer_of (Err why) = no_counts why
 
 -- ---- the causes of a refusal
 
 -- whether a cause applies, and how the call then ends
 pub record Cause : Type 0 where
   pub applies : Bool
-  pub why : Ending
+  pub why : CallRefusal
 
-abbrev pub cause : Bool → Ending → Cause
+abbrev pub cause : Bool → CallRefusal → Cause
 cause applies why = record { applies = applies; why = why }
 
 -- "1: record not 123 bytes or not well formed": what the check answers of such a record
@@ -61,7 +69,7 @@ bad Good = false
 bad Bad = true
 
 -- "In this order": the first cause that applies decides; if none does, z is left. A call may leave any kind of thing.
-abbrev pub first_of : {Z : Type 0} → List Cause → (Ending → Z) → Z → Z
+abbrev pub first_of : {Z : Type 0} → List Cause → (CallRefusal → Z) → Z → Z
 first_of [] refuse z = z
 first_of (c ∷ causes) refuse z = cond c.applies (refuse c.why) (first_of causes refuse z)
 

@@ -1,11 +1,12 @@
 -- The reader: from a capture and a list to its outcome, refusals included. It has no record.
-use Rattle.std.specs.Prelude.{ℕ, ◌/◌, ◌≡◌, List, [], ◌∷◌, length, ltb}
+use Rattle.std.specs.Prelude.{ℕ, ◌/◌, ◌≡◌, List, [], ◌∷◌, length, ltb, Result, Ok, Err}
 use Rattle.wire.specs.Sizes.{capture_most}
 use Rattle.wire.specs.Numbers.{put}
 use Rattle.wire.specs.Frames.{cut_from, cut, placed_from, placed}
 use Rattle.wire.specs.Reader.{Entry, reader, entries_of, list_of}
-use Rattle.call.specs.declared.Ending.{Ending}
-use Rattle.call.specs.declared.Ending.TheVariants.{Done, BadLength, NoRoom}
+use Rattle.call.specs.declared.CallRefusal.{CallRefusal}
+use Rattle.call.specs.declared.CallRefusal.TheVariants.{BadLength, NoRoom}
+use Rattle.call.specs.declared.ReadDone.{ReadDone}
 use Rattle.call.specs.declared.ReadAnswer.{ReadAnswer}
 use Rattle.call.specs.Outcome.{result_of, Cause, cause, first_of}
 
@@ -15,10 +16,10 @@ pub record ReadOutcome : Type 0 where
   pub list : List ℕ
 
 -- "both with zero counts and the list untouched"
-abbrev pub no_entries : Ending → ReadAnswer
+abbrev pub no_entries : CallRefusal → ReadAnswer
 no_entries why = record { result = result_of why; entries = 0; skipped = 0; unread = 0 }
 
-abbrev pub read_refused : List ℕ → Ending → ReadOutcome
+abbrev pub read_refused : List ℕ → CallRefusal → ReadOutcome
 read_refused list why = record { answer = no_entries why; list = list }
 
 -- "capture over 4,096 bytes gives 2, then a list of fewer entries than the whole part of its bytes / 4 gives 3"
@@ -28,6 +29,15 @@ read_causes capture list =
     ∷ cause (ltb (length list / 4) (length capture / 4)) NoRoom
     ∷ []
 
+-- "0 done" with its counts
+abbrev pub read_counts : ℕ → ℕ → ℕ → ReadAnswer
+read_counts entries skipped unread = record { result = 0; entries = entries; skipped = skipped; unread = unread }
+
+-- the answer to C: the counts of a reading that is done, or what refuses it
+abbrev pub read_answer_of : Result ReadDone CallRefusal → ReadAnswer
+read_answer_of (Ok d) = read_counts d.entries d.skipped d.unread
+read_answer_of (Err why) = no_entries why
+
 -- the entries of a capture, in its order
 abbrev pub read_entries : List ℕ → List Entry
 read_entries capture = entries_of (placed reader capture)
@@ -35,12 +45,7 @@ read_entries capture = entries_of (placed reader capture)
 -- "Bytes that are no frame are skipped one at a time as in the board's hunt, and counted."; "left unread and its length returned"; numbers behind the last entry stay
 abbrev pub after_read : List ℕ → List ℕ → ReadOutcome
 after_read capture list = record {
-  answer = record {
-    result = result_of Done;
-    entries = length (read_entries capture);
-    skipped = (cut reader capture).skipped;
-    unread = length (cut reader capture).waiting;
-  };
+  answer = read_counts (length (read_entries capture)) (cut reader capture).skipped (length (cut reader capture).waiting);
   list = put list 0 (list_of (read_entries capture));
 }
 

@@ -21,7 +21,7 @@ use Rattle.command.specs.Step.{on_piece}
 use Rattle.command.specs.Hunt.{hunt_from, hunt_of, record_after, room_for}
 use Rattle.command.proofs.Kept.{hunt-in}
 use Rattle.command.proofs.Room.{room-enough}
-use Rattle.call.specs.declared.Ending.TheVariants.{BadLength, NoRoom}
+use Rattle.call.specs.declared.CallRefusal.TheVariants.{BadLength, NoRoom}
 use Rattle.call.specs.Outcome.{Outcome, refused, cause, done}
 use Rattle.call.specs.Reasons.{NoReason}
 use Rattle.call.proofs.InOrder.{None, SameCauses, none_left}

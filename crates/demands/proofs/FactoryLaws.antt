@@ -10,7 +10,7 @@ use borrow.Author.Tests.{eqb-true, not-true, not-false}
 use Rattle.record.specs.Layout.{record_size, bytes_of}
 use Rattle.record.specs.Births as births
 use Rattle.record.proofs.Births.{factory-in}
-use Rattle.call.specs.declared.Ending.TheVariants.{BadRecord}
+use Rattle.call.specs.declared.CallRefusal.TheVariants.{BadRecord}
 use Rattle.call.specs.Outcome.{done, cause}
 use Rattle.call.specs.Calls.{factory_causes, factory_call}
 use Rattle.call.proofs.Unfolded.{factory-by}

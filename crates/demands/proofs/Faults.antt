@@ -11,7 +11,7 @@ use borrow.Author.Tests.{eq-eqb, ne_eqb}
 use Rattle.record.specs.Layout.{current, record_size, bytes_of}
 use Rattle.record.specs.Form.{Field, fields_in, all_fine, well_formed, first_fault, fault_place, fault_of}
 use Rattle.record.specs.Births.{factory}
-use Rattle.call.specs.declared.Ending.TheVariants.{BadRecord}
+use Rattle.call.specs.declared.CallRefusal.TheVariants.{BadRecord}
 use Rattle.call.specs.Outcome.{refused, done}
 use Rattle.call.specs.Calls.{factory_call, power_on_call}
 use Rattle.call.proofs.Unfolded.{factory-by}

@@ -14,8 +14,8 @@ use Rattle.record.specs.Form.{InRange, fault_of}
 use Rattle.record.proofs.Lens.{long, get-tries}
 use Rattle.record.proofs.RoundTrip.{well-formed}
 use Rattle.record.proofs.Whole.{bytes-bytes}
-use Rattle.call.specs.declared.Ending.{Ending}
-use Rattle.call.specs.declared.Ending.TheVariants.{Done, BadRecord, BadLength, NoRoom, NotFinite}
+use Rattle.call.specs.declared.CallRefusal.{CallRefusal}
+use Rattle.call.specs.declared.CallRefusal.TheVariants.{BadRecord, BadLength, NoRoom, NotFinite}
 use Rattle.call.specs.Outcome.{result_of, faulty_place, Outcome, refused, done, Cause, in_order}
 use Rattle.call.specs.Reasons.{NoReason, Ends}
 use Rattle.call.proofs.InOrder.{None, Each, SameCauses, DecidesAll, in_order_lem, in-order-each, in-order-both, ends, none_left, no-reason}
@@ -25,9 +25,8 @@ use Rattle.demands.specs.EndsProperly.{Unharmed}
 use Rattle.demands.proofs.Tests.{not-bad}
 
 -- a bad record is told with its place, by each cause that applies
-abbrev pub PlacedBy : List ℕ → Ending → Type 0
+abbrev pub PlacedBy : List ℕ → CallRefusal → Type 0
 PlacedBy s (BadRecord place) = place ≡ fault_of s
-PlacedBy s Done = Unit {0}
 PlacedBy s BadLength = Unit {0}
 PlacedBy s NoRoom = Unit {0}
 PlacedBy s NotFinite = Unit {0}
@@ -72,7 +71,7 @@ module _ (c : Call) (w : Laws c) (l : c.Lent) (s : List ℕ) where
   abbrev finished : Outcome
   finished = done (w.after l s) (w.out l s) (w.skips l s) o
 
-  abbrev refuse : Ending → Outcome
+  abbrev refuse : CallRefusal → Outcome
   refuse why = refused why s o
 
   pub ends_by : Ends (c.reasons l s) s o (c.outcome l s)
@@ -88,9 +87,8 @@ module _ (c : Call) (w : Laws c) (l : c.Lent) (s : List ℕ) where
   pub placeless : (c.outcome l s).answer.result ≢ 1 → (c.outcome l s).answer.place ≡ 0
   placeless = rw (w.chain l s) (in_order_lem Outcome refuse finished (λ z. z.answer.result ≢ 1 → z.answer.place ≡ 0) (w.causes l s) only-bad (λ n h. refl))
     where
-      only-bad : (why : Ending) → result_of why ≢ 1 → faulty_place why ≡ 0
+      only-bad : (why : CallRefusal) → result_of why ≢ 1 → faulty_place why ≡ 0
       only-bad (BadRecord place) h = absurd (h refl)
-      only-bad Done h = refl
       only-bad BadLength h = refl
       only-bad NoRoom h = refl
       only-bad NotFinite h = refl
@@ -102,9 +100,8 @@ module _ (c : Call) (w : Laws c) (l : c.Lent) (s : List ℕ) where
       Told : Outcome → Type 0
       Told z = z.answer.result ≡ 1 → z.answer.place ≡ fault_of s
 
-      by : (why : Ending) → PlacedBy s why → result_of why ≡ 1 → faulty_place why ≡ fault_of s
+      by : (why : CallRefusal) → PlacedBy s why → result_of why ≡ 1 → faulty_place why ≡ fault_of s
       by (BadRecord place) p h = p
-      by Done p h = absurd (omega arith)
       by BadLength p h = absurd (omega arith)
       by NoRoom p h = absurd (omega arith)
       by NotFinite p h = absurd (omega arith)

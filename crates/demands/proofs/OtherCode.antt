@@ -19,7 +19,7 @@ use Rattle.record.proofs.Stores.{set-code_in}
 use Rattle.record.proofs.Faults.{code-blind, code-fault}
 use Rattle.record.proofs.RoundTrip.{read_back, in-range, write-back}
 use Rattle.record.proofs.Whole.{code_in}
-use Rattle.call.specs.declared.Ending.TheVariants.{BadRecord}
+use Rattle.call.specs.declared.CallRefusal.TheVariants.{BadRecord}
 use Rattle.call.specs.Outcome.{done, cause, bad}
 use Rattle.call.specs.Calls.{bad_record}
 use Rattle.call.proofs.Ends.{form-good, good-long}

@@ -9,6 +9,7 @@ use lib.ListN.{length, get_or, take, drop}
 use lib.Seq.{length-take-le, drop_at, drop-drop}
 use lib.Dec.{eqb}
 use borrow.Author.Tests.{le-leb, lt-leb, eq-eqb, ne_eqb}
+use Rattle.std.proofs.Math.Bool.{or-true}
 use Rattle.wire.specs.Sizes.{capture_most}
 use Rattle.wire.specs.Frames.{Heads, Look, Skip, Wait, Take, Tear, look, Cut, onward, cut_from, cut, sizes, Placed, placed_on, placed_from}
 use Rattle.wire.specs.Serial.{ends_in_85}
@@ -18,7 +19,7 @@ use Rattle.wire.proofs.SerialLaws.{size-other}
 use Rattle.wire.proofs.ReaderLaws.{third-long, third-measuring, third-other, reader-is, read-alone, read-unsaid, read-third, read-reply, read_none, read-torn, read-frame}
 use Rattle.wire.proofs.EntryLaws.{length-list, entries-put}
 use Rattle.wire.proofs.PutLaws.{put-zero, length-put}
-use Rattle.call.specs.declared.Ending.TheVariants.{BadLength, NoRoom}
+use Rattle.call.specs.declared.CallRefusal.TheVariants.{BadLength, NoRoom}
 use Rattle.call.specs.Reasons.{NoReason, EndsBy}
 use Rattle.call.specs.Read.{ReadOutcome, read_refused, read_causes, read_entries, after_read, read_call}
 use Rattle.call.proofs.InOrder.{DecidesAll, none_left, no-reason, ends}
@@ -35,11 +36,7 @@ among-reply : (b : ℕ) → 0x50 ≤ b → b ≤ 0x6F → is_reply b ≡ true
 among-reply b g h = rw (le-leb 0x50 b g, le-leb b 0x6F h) refl
 
 long-is : (b : ℕ) → (b ≡ 0x5F) ⊎ (b ≡ 0x6F) → is_long b ≡ true
-long-is b w = ⊎_elim (λ e. rw (eq-eqb b 0x5F e) refl) (λ e. rw (eq-eqb b 0x6F e) (either (eqb b 0x5F))) w
-  where
-    either : (t : Bool) → (t || true) ≡ true
-    either true = refl
-    either false = refl
+long-is b w = ⊎_elim (λ e. rw (eq-eqb b 0x5F e) refl) (λ e. rw (eq-eqb b 0x6F e) (or-true (eqb b 0x5F))) w
 
 long-not : (b : ℕ) → b ≢ 0x5F → b ≢ 0x6F → is_long b ≡ false
 long-not b g h = rw (ne_eqb b 0x5F g, ne_eqb b 0x6F h) refl

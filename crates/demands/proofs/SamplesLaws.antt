@@ -12,7 +12,7 @@ use Rattle.record.specs.Layout.{channels, record_of}
 use Rattle.record.specs.Reading.{reading_of}
 use Rattle.record.proofs.RoundTrip.{in-range}
 use Rattle.record.proofs.Reading.{reading-in}
-use Rattle.call.specs.declared.Ending.TheVariants.{BadLength, NoRoom, NotFinite}
+use Rattle.call.specs.declared.CallRefusal.TheVariants.{BadLength, NoRoom, NotFinite}
 use Rattle.call.specs.Reasons.{NoReason}
 use Rattle.call.specs.Calls.{sample_size, measuring_size, measuring_frame, after_sample, samples_causes, samples_call}
 use Rattle.call.proofs.Unfolded.{samples-by}

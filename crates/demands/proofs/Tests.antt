@@ -1,19 +1,21 @@
 -- The tests of the calls decide what the reasons say.
 use Prim.Native.Nat.{ℕ, zero, suc, ◌+◌, ◌*◌, ◌<◌}
 use mathlib.Core.Path.{◌≡◌, refl, sym, ap, ◌∙◌}
-use mathlib.Core.Logic.{◌≢◌}
+use mathlib.Core.Logic.{◌≢◌, ⊎_elim}
 use mathlib.Core.Bool.{Bool, true, false, not, true≢false}
 use mathlib.Core.List.{List}
 use native.Mathlib.Nat.{zero-add}
 use native.Mathlib.Omega.{arith}
 use lib.Dec.{ltb, eqb}
 use borrow.Author.Tests.{ltb-true, ltb-false, eqb-true, eqb-false, not-true, not-false}
+use Rattle.std.proofs.lemmas.Bool.{true_from_ne_false}
+use Rattle.std.proofs.lemmas.Bool.Decides.{eqb_tells}
 use Rattle.wire.specs.Numbers.{word_at}
 use Rattle.peak.specs.Pairs.{finite, all_finite}
 use Rattle.peak.proofs.PairLaws.{finite-at}
 use Rattle.record.specs.Layout.{channels}
 use Rattle.record.specs.Form.{well_formed, form_by, form_of}
-use Rattle.call.specs.declared.Ending.{Ending}
+use Rattle.call.specs.declared.CallRefusal.{CallRefusal}
 use Rattle.call.specs.Outcome.{result_of, bad, cause}
 use Rattle.call.specs.Calls.{bad_record}
 use Rattle.call.specs.Reasons.{reason}
@@ -23,19 +25,11 @@ use Rattle.demands.specs.CallList.{Malformed, malformed_at, Stray}
 pub not-bad : (s : List ℕ) → well_formed s ≡ true → ¬ Malformed s
 not-bad s w e = true≢false (sym w ∙ e)
 
-unless-false : (t : Bool) → ¬ (t ≡ false) → t ≡ true
-unless-false true h = refl
-unless-false false h = absurd (h refl)
-
 pub well : (s : List ℕ) → ¬ Malformed s → well_formed s ≡ true
-well s h = unless-false (well_formed s) h
+well s h = true_from_ne_false (well_formed s) h
 
 pub settled : (a b : ℕ) → ¬ (a ≢ b) → a ≡ b
-settled a b h = by (eqb a b) refl
-  where
-    by : (t : Bool) → eqb a b ≡ t → a ≡ b
-    by true e = eqb-true a b e
-    by false e = absurd (h (eqb-false a b e))
+settled a b h = ⊎_elim (λ e. e.1) (λ e. absurd (h e.1)) (eqb_tells a b)
 
 bad-by : (b : Bool) → bad (form_by b) ≡ not b
 bad-by true = refl
@@ -43,7 +37,7 @@ bad-by false = refl
 
 -- ---- each kind of test
 
-module _ (why : Ending) (number : result_of why ≢ 0) where
+module _ (why : CallRefusal) (number : result_of why ≢ 0) where
   pub below : (a b : ℕ) → Decides (cause (ltb a b) why) (reason (a < b) why)
   below a b = record { same = refl; number = number; yes = λ e. ltb-true a b e; no = λ e h. omega (arith, ltb-false a b e) }
 
@@ -81,7 +75,7 @@ stray-found sample e = let w = stray-from channels sample 0 e in (w.0, w.1, rw (
 none-stray : (sample : List ℕ) → all_finite channels sample 0 ≡ true → ¬ Stray sample
 none-stray sample e w = true≢false (sym (rw (zero-add (4 * w.0)) at (finite-at channels sample 0 w.0 e w.1)) ∙ w.2)
 
-pub stray : (why : Ending) → result_of why ≢ 0 → (sample : List ℕ) → Decides (cause (not (all_finite channels sample 0)) why) (reason (Stray sample) why)
+pub stray : (why : CallRefusal) → result_of why ≢ 0 → (sample : List ℕ) → Decides (cause (not (all_finite channels sample 0)) why) (reason (Stray sample) why)
 stray why number sample = record {
   same = refl;
   number = number;

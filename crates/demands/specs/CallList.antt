@@ -6,7 +6,7 @@ use Rattle.wire.specs.Serial.{serial}
 use Rattle.peak.specs.Pairs.{finite}
 use Rattle.record.specs.Layout.{record_of}
 use Rattle.record.specs.Form.{well_formed, fault_of}
-use Rattle.call.specs.declared.Ending.TheVariants.{BadRecord, BadLength, NoRoom, NotFinite}
+use Rattle.call.specs.declared.CallRefusal.TheVariants.{BadRecord, BadLength, NoRoom, NotFinite}
 use Rattle.call.specs.Outcome.{Outcome}
 use Rattle.call.specs.Reasons.{Reason, reason}
 use Rattle.call.specs.Calls.{factory_call, power_on_call, bytes_call, samples_call}

@@ -1,7 +1,7 @@
 -- Demand 1: every call over a record ends properly, on all inputs.
 use Rattle.std.specs.Prelude.{ℕ, ◌≡◌, List, length}
 use Rattle.wire.specs.Numbers.{Bytes}
-use Rattle.call.specs.declared.Ending.TheVariants.{BadRecord, BadLength, NoRoom, NotFinite}
+use Rattle.call.specs.declared.CallRefusal.TheVariants.{BadRecord, BadLength, NoRoom, NotFinite}
 use Rattle.call.specs.Outcome.{result_of, Outcome}
 use Rattle.call.specs.Reasons.{Ends}
 use Rattle.demands.specs.CallList.{Malformed, Made, call_of, outcome_of}

@@ -3,7 +3,7 @@ use Rattle.std.specs.Prelude.{ℕ, ◌+◌, ◌-◌, ◌*◌, ◌/◌, ◌%◌, 
 use Rattle.wire.specs.declared.Size.TheVariants.{Of}
 use Rattle.wire.specs.Frames.{Piece, Whole, Broken, stop, skip_one, take_one, tear_one, cut}
 use Rattle.wire.specs.Reader.{reader, Entry, entries_in}
-use Rattle.call.specs.declared.Ending.TheVariants.{BadLength, NoRoom}
+use Rattle.call.specs.declared.CallRefusal.TheVariants.{BadLength, NoRoom}
 use Rattle.call.specs.Reasons.{Reason, reason, NoReason, EndsBy}
 use Rattle.call.specs.Read.{ReadOutcome, read_refused, read_entries, read_call, ReadAllows}
 

@@ -4,15 +4,13 @@
 ghost use Rattle.std.specs.Prelude.{◌≡◌, ◌≤◌, length};
 ghost use Rattle.wire.specs.Numbers.{put};
 ghost use Rattle.record.specs.Layout.{channels};
-ghost use Rattle.call.specs.Outcome.{Leaves};
+ghost use Rattle.call.specs.Outcome.{Leaves, answer_of};
 ghost use Rattle.call.specs.Calls.{sample_size, measuring_size, measuring_frame, samples_call};
 
 use buffer::write::put_in;
-use call::{Answer, Ending, ended};
-use fault::fault_of;
-use form::form_of;
+use call::check::checked;
+use call::{Answer, CallRefusal, Done};
 use reading::peaks::{finite_values, take_reading, values_of};
-use record::Form;
 use wire::sizes::SAMPLE_SIZE;
 
 // The measuring frame of a reading.
@@ -36,30 +34,33 @@ fn put_measuring_frame(out: &mut [u8], sample: &[u8])
 }
 
 // Takes a reading into the pairs and, with sending on, writes a measuring frame.
-pub fn answer_samples(rec: &mut [u8], sample: &[u8], out: &mut [u8]) -> Answer
-    ensures { Leaves (samples_call rec.old sample.now out.old) result rec.new out.new }
+fn measured(rec: &mut [u8], sample: &[u8], out: &mut [u8]) -> Result<Done, CallRefusal>
+    ensures { Leaves (samples_call rec.old sample.now out.old) (answer_of result) rec.new out.new }
 {
-    let Form::Good = form_of(rec) else {
-        return ended(Ending::BadRecord(fault_of(rec)));
-    };
+    checked(rec)?;
     if sample.len() != SAMPLE_SIZE {
-        return ended(Ending::BadLength);
+        return Err(CallRefusal::BadLength);
     }
     if out.len() < MEASURING_SIZE {
-        return ended(Ending::NoRoom);
+        return Err(CallRefusal::NoRoom);
     }
     let x = values_of(sample);
     if !finite_values(x) {
-        return ended(Ending::NotFinite);
+        return Err(CallRefusal::NotFinite);
     }
-    if take_reading(rec, x, sample) {
-        put_measuring_frame(out, sample);
-        return Answer {
-            result: 0,
-            written: FRAME_COUNT,
-            skipped: 0,
-            place: 0,
-        };
+    if !take_reading(rec, x, sample) {
+        return Ok(Done::default());
     }
-    ended(Ending::Done)
+    put_measuring_frame(out, sample);
+    Ok(Done {
+        written: FRAME_COUNT,
+        skipped: 0,
+    })
+}
+
+// The same, answered as C has it.
+pub fn answer_samples(rec: &mut [u8], sample: &[u8], out: &mut [u8]) -> Answer
+    ensures { Leaves (samples_call rec.old sample.now out.old) result rec.new out.new }
+{
+    Answer::from(measured(rec, sample, out))
 }

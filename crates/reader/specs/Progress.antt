@@ -4,7 +4,7 @@ use Rattle.wire.specs.Numbers.{put}
 use Rattle.wire.specs.Frames.{cut, placed_from}
 use Rattle.wire.specs.Reader.{Entry, reader, entries_of, list_of}
 use Rattle.call.specs.Read.{read_entries}
-use Rattle.reader.specs.declared.Heard.{Heard}
+use Rattle.call.specs.declared.ReadDone.{ReadDone}
 
 -- It stands at a place of the capture l; the entries up to there are written, from so many bytes of frames, and all that is left is the reading from there on.
 pub record Reads (l before : List ℕ) (at entries framed : ℕ) (list : List ℕ) : Type 0 where
@@ -19,9 +19,8 @@ pub record Reads (l before : List ℕ) (at entries framed : ℕ) (list : List �
   pub writes : list ≡ put before 0 (list_of es)
 
 -- the reading of a whole capture: it came to the end or to what waits
-pub record ReadsAll (l before : List ℕ) (h : Heard) (list : List ℕ) : Type 0 where
-  pub entries_are : h.entries ≡ length (read_entries l)
-  pub skipped_is : h.skipped ≡ (cut reader l).skipped
-  pub unread_is : h.unread ≡ length (cut reader l).waiting
+pub record ReadsAll (l before : List ℕ) (d : ReadDone) (list : List ℕ) : Type 0 where
+  pub entries_are : d.entries ≡ length (read_entries l)
+  pub skipped_is : d.skipped ≡ (cut reader l).skipped
+  pub unread_is : d.unread ≡ length (cut reader l).waiting
   pub writes : list ≡ put before 0 (list_of (read_entries l))
-  pub fits : (h.entries ≤ length l) × (h.skipped ≤ length l) × (h.unread ≤ length l)

@@ -7,10 +7,10 @@ ghost use Rattle.std.specs.Prelude.{◌≡◌, ◌+◌, ◌*◌, ◌/◌, ◌≤
 ghost use Rattle.wire.specs.Sizes.{capture_most};
 ghost use Rattle.wire.specs.Numbers.{put};
 ghost use Rattle.wire.specs.Reader.{status_told, entry_of, entry_numbers};
-ghost use Rattle.call.specs.Read.{read_call, ReadLeaves};
+ghost use Rattle.call.specs.Read.{read_answer_of, read_call, ReadLeaves};
 ghost use Rattle.reader.specs.Progress.{ReadsAll};
 
-use call::{Ending, ReadAnswer, read_ended};
+use call::{CallRefusal, ReadAnswer, ReadDone};
 use finder::next_aa;
 use heads::{is_long, size_at};
 use wire::Size;
@@ -18,14 +18,6 @@ use wire::sizes::{CAPTURE_MOST, FRAME_LEAST};
 
 // The numbers of one entry.
 const ENTRY_NUMBERS: usize = 4;
-
-// What was read of a capture: entries written, bytes skipped, bytes unread.
-#[derive(Drop)]
-pub struct Heard {
-    pub entries: usize,
-    pub skipped: usize,
-    pub unread: usize,
-}
 
 // The status that an entry tells.
 fn status_in(head: u8, third: u8) -> u32
@@ -53,13 +45,14 @@ fn put_entry(list: &mut [u32], k: usize, s: &[u8], at: usize, n: usize)
 }
 
 // Reads all of a capture. The head behind a torn AA is no AA, so the two are skipped at once.
-fn read_in(s: &[u8], list: &mut [u32]) -> Heard
+fn read_in(s: &[u8], list: &mut [u32]) -> ReadDone
     requires { (length s.now ≤ capture_most) × (length s.now / 4 ≤ length list.old / 4) }
     ensures { ReadsAll s.now list.old result list.new }
 {
     let mut at = 0;
     let mut entries = 0;
     let mut framed = 0;
+    // Counted by hand: each turn goes on by what stands there, and no iterator has such places.
     'read: while at < s.len() {
         if s[at] != 0xAA {
             at = next_aa(s, at, s.len());
@@ -86,28 +79,29 @@ fn read_in(s: &[u8], list: &mut [u32]) -> Heard
         framed = framed + 4 + n;
         at = last + 1;
     }
-    Heard {
-        entries,
-        skipped: at - framed,
-        unread: s.len() - at,
+    ReadDone {
+        entries: entries as u32,
+        skipped: (at - framed) as u32,
+        unread: (s.len() - at) as u32,
     }
 }
 
 // Checks what it is given, then reads.
+fn read(capture: &[u8], list: &mut [u32]) -> Result<ReadDone, CallRefusal>
+    ensures { ReadLeaves (read_call capture.now list.old) (read_answer_of result) list.new }
+{
+    if CAPTURE_MOST < capture.len() {
+        return Err(CallRefusal::BadLength);
+    }
+    if list.len() / ENTRY_NUMBERS < capture.len() / FRAME_LEAST {
+        return Err(CallRefusal::NoRoom);
+    }
+    Ok(read_in(capture, list))
+}
+
+// The same, answered as C has it.
 pub fn answer_read(capture: &[u8], list: &mut [u32]) -> ReadAnswer
     ensures { ReadLeaves (read_call capture.now list.old) result list.new }
 {
-    if CAPTURE_MOST < capture.len() {
-        return read_ended(Ending::BadLength);
-    }
-    if list.len() / ENTRY_NUMBERS < capture.len() / FRAME_LEAST {
-        return read_ended(Ending::NoRoom);
-    }
-    let h = read_in(capture, list);
-    ReadAnswer {
-        result: 0,
-        entries: h.entries as u32,
-        skipped: h.skipped as u32,
-        unread: h.unread as u32,
-    }
+    ReadAnswer::from(read(capture, list))
 }

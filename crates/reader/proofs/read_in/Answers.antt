@@ -7,19 +7,13 @@ use lib.ListN.{length, drop}
 use Rattle.wire.specs.Reader.{reader}
 use Rattle.wire.specs.Frames.{Wait, look}
 use Rattle.wire.proofs.CutLaws.{look-unsaid}
-use Rattle.wire.proofs.ReaderLaws.{read-few, read-waits, read-frame, read-noise}
-use Rattle.finder.proofs.FinderLaws.{reaches-on}
-use Rattle.reader.proofs.ReadLaws.{reads-start, reads-pass, reads-skip, reads-torn, reads-frame, reads-room, reads-long, reads_end}
+use Rattle.wire.proofs.ReaderLaws.{read-few, read-waits, read-noise}
+use Rattle.reader.proofs.ReadLaws.{reads-start, reads-pass, reads-skip, reads-torn, reads-frame, reads_end}
 use Rattle.reader.proofs.read_in.Goals as goal
 use Rattle.reader.proofs.read_in.Goals.{else-read-test, then-read-test+else-s-at+in-NeedMore, then-read-test+else-s-at+in-Of+then-s-last}
 
 pub read-init : goal.read-init
 read-init c = reads-start c.args.s.now c.args.list.now
-
-pub read-smaller-then-s-at : goal.read-smaller-then-s-at
-read-smaller-then-s-at c =
-    let s = c.args.s.now in
-    omega (arith, c.next_aa-at.ensures.up_to, reaches-on s c.read.at (length s) c.next_aa-at.result c.next_aa-at.ensures c.read-test.true c.if-s-at.true)
 
 pub read-preserved-then-s-at : goal.read-preserved-then-s-at
 read-preserved-then-s-at c =
@@ -43,24 +37,10 @@ read-preserved-then-s-last-2 c =
     let l = c.read in
     reads-torn c.args.s.now c.args.list.now l.at l.entries l.framed l.list l.invariant c.if-s-at.false c.in-Of.n (sym c.in-Of.ensures) c.if-s-last.false c.if-s-last-2.true
 
-pub put_entry-requires : goal.put_entry-requires
-put_entry-requires c =
-    let s = c.args.s.now in
-    let l = c.read in
-    let n = c.in-Of.n in
-    let h = c.if-s-last.false in
-    record {
-      k_in_bounds = reads-room s c.args.list.now l.at l.entries l.framed l.list l.invariant c.requires.1 n (read-frame s l.at n (sym c.in-Of.ensures) h c.if-s-last-2.false);
-      n_in_bounds = (omega (arith, h), c.requires.0);
-    }
-
 pub read-preserved : goal.read-preserved
 read-preserved c =
     let l = c.read in
     reads-frame c.args.s.now c.args.list.now l.at l.entries l.framed l.list l.invariant c.requires.1 c.in-Of.n (sym c.in-Of.ensures) c.if-s-last.false c.if-s-last-2.false _ c.put_entry.ensures
-
-pub shape_of-list : goal.shape_of-list
-shape_of-list c = let l = c.read in reads-long c.args.s.now c.args.list.now l.at l.entries l.framed l.list l.invariant c.requires.1
 
 -- the end of the capture, a front that does not say its size, a candidate that is not all there
 pub returns : goal.returns

@@ -10,9 +10,6 @@ pub returns-then-s-at-2 : goal.returns-then-s-at-2
 returns-then-s-at-2 c =
     read-unsaid c.args.s.now c.args.at c.requires.1 c.if-s-at.false (rw (sym c.is_long.ensures) c.if-is_long-b.true) c.if-s-at-2.true
 
-pub third_size-requires : goal.third_size-requires
-third_size-requires c = rw (sym c.is_long.ensures) c.if-is_long-b.true
-
 pub returns-then-is_long-b : goal.returns-then-is_long-b
 returns-then-is_long-b c = read-third c.args.s.now c.args.at c.requires.1 c.if-s-at.false c.if-s-at-2.false _ c.third_size.ensures
 
