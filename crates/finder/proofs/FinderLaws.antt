@@ -1,10 +1,9 @@
 -- What the finder meets at a place, as a decision of the hunt, for the heads of any line.
-use Prim.Native.Nat.{ℕ, zero, suc, ◌+◌, ◌≤◌, ◌<◌}
+use Prim.Native.Nat.{ℕ, ◌+◌, ◌≤◌, ◌<◌}
 use mathlib.Core.Path.{◌≡◌, refl, sym, ap, ap₂, ◌∙◌}
 use mathlib.Core.Logic.{◌⊎◌, inl, inr, ⊎_elim}
-use mathlib.Core.List.{List}
-use mathlib.Core.Bool.{Bool, true, false, not, ◌&&◌}
-use native.Mathlib.Nat.{add-zero}
+use mathlib.Core.List.{List, [], ◌∷◌}
+use mathlib.Core.Bool.{Bool, true, not, ◌&&◌, and-true, and_assoc}
 use native.Mathlib.Omega.{arith}
 use lib.ListN.{length, get_or, drop}
 use lib.Dec.{eqb}
@@ -13,37 +12,74 @@ use Rattle.wire.specs.Frames.{Heads, Look, Skip, Wait, Take, Tear, look, Passed}
 use Rattle.wire.specs.declared.Size.TheVariants.{Of}
 use Rattle.wire.specs.Serial.{Fixed, NotHead, fronted, ends_in_85, line_head, heads_of, Noise}
 use Rattle.wire.specs.declared.Line.{Line}
-use Rattle.finder.specs.Finder.{no_aa, Reaches, StandsAt, Finds}
+use Rattle.std.proofs.Common.{Option, Some, None, take, ◌-◌, ◌≢◌, subst}
+use Rattle.std.proofs.lemmas.List.Edits.{length-between}
+use Rattle.std.proofs.lemmas.List.Recursion.{and_at}
+use Rattle.std.specs.List.{list_all, fold, AllWithin, HoldsAt}
+use Rattle.std.specs.Option.{MatchOption, unwrap_or}
+use lib.Seq.{get_or-take, get_or-drop, take-take, drop-drop}
+use Rattle.wire.proofs.NumberLaws.{drop-take}
+use Rattle.wire.proofs.ScanLaws.{part}
+use Rattle.finder.specs.Finder.{Reaches, StandsAt, Finds}
 use Rattle.finder.specs.declared.Seen.{Seen}
 use Rattle.finder.specs.declared.Seen.TheVariants.{Frame, Torn, NoMore}
 use Rattle.finder.specs.declared.Found.{Found}
-use Rattle.wire.proofs.Stretches.{before-or-not, stretch-one, stretch-on}
+use Rattle.wire.proofs.Stretches.{before-or-not, stretch-on}
 use Rattle.wire.proofs.CutLaws.{look-unsaid}
 use Rattle.wire.proofs.CutLaws as cuts
 use Rattle.wire.proofs.SerialLaws.{heads-of, noise-passed, alone_at, told_at, candidate-waits, candidate-torn, candidate-frame}
 
-both_by : (s t : Bool) → (s && t) ≡ true → (s ≡ true) × (t ≡ true)
-both_by true true e = (refl, refl)
-both_by true false e = let z : ◌≡◌ {A = ℕ} 0 1 = cc in absurd (omega arith)
-both_by false t e = let z : ◌≡◌ {A = ℕ} 0 1 = cc in absurd (omega arith)
-
 -- ---- bytes that are no AA
 
-pub noise-quiet : (n : ℕ) (l : List ℕ) (from at : ℕ) → Noise l from at → at + n ≤ length l → no_aa n l at ≡ true → Noise l from (at + n)
-unfolding no_aa
-noise-quiet zero l from at p h e = rw add-zero p
-noise-quiet (suc n) l from at p h e =
-    let w = both_by (no_aa n l at) (not (eqb (get_or l (at + n) 0) 0xAA)) e in
-    let q : Noise l from (at + n) = noise-quiet n l from at p (omega arith) w.0 in
-    let m : at + suc n ≡ at + n + 1 = omega arith in
-    rw m (stretch-one l _ from (at + n) q (omega arith) (eqb-false (get_or l (at + n) 0) 0xAA (not-true (eqb (get_or l (at + n) 0) 0xAA) w.1)))
+abbrev pub is_quiet : ℕ → Bool
+is_quiet b = not (eqb b 0xAA)
 
--- sixteen bytes, as two tests of eight
-pub noise-sixteen : (l : List ℕ) (from at : ℕ) (a b : Bool) → Noise l from at → at + 16 ≤ length l → a ≡ no_aa 8 l at → b ≡ no_aa 8 l (at + 8) → (a && b) ≡ true → Noise l from (at + 16)
-noise-sixteen l from at a b p h ea eb t =
-    let w = both_by a b t in
-    let m : at + 16 ≡ at + 8 + 8 = omega arith in
-    rw m (noise-quiet 8 l from (at + 8) (noise-quiet 8 l from at p (omega arith) (sym ea ∙ w.0)) (omega arith) (sym eb ∙ w.1))
+-- the test of all bytes, as a fold makes it
+pub quiet-fold : (s : List ℕ) (a : Bool) → fold (λ (q : Bool) (b : ℕ). q && is_quiet b) a s ≡ (a && list_all is_quiet s)
+quiet-fold [] a = sym (and-true a)
+quiet-fold (b ∷ s) a = quiet-fold s (a && is_quiet b) ∙ and_assoc a (is_quiet b) (list_all is_quiet s)
+
+module _ (l : List ℕ) (from at until : ℕ) (h : at ≤ until) (m : until ≤ length l) (p : Noise l from at) where
+  abbrev rest : List ℕ
+  rest = take (until - at) (drop at l)
+
+  long : length rest ≡ until - at
+  long = length-between l at until m
+
+  there : (i : ℕ) → i < until - at → get_or rest i 0 ≡ get_or l (at + i) 0
+  there i b = get_or-take (until - at) (drop at l) i 0 b ∙ get_or-drop at l i 0
+
+  still : (k : ℕ) → k ≤ length rest → AllWithin (λ b. b ≢ 0xAA) rest 0 k → Noise l from (at + k)
+  still k b a =
+      let each : (i : ℕ) → at ≤ i → i < at + k → get_or l i 0 ≢ 0xAA =
+      λ i c d. let e : at + (i - at) ≡ i = omega arith in rw e at (subst (λ (x : ℕ). x ≢ 0xAA) (there (i - at) (omega (arith, long))) (a (i - at) 0 (omega arith) (omega arith))) in
+      stretch-on l _ from at (at + k) p (record { after = omega arith; inside = omega (arith, long); each = each })
+
+  -- as many bytes as a test of all of them leaves quiet
+  pub noise-quiet : list_all is_quiet rest ≡ true → Noise l from until
+  noise-quiet e =
+      let n : at + length rest ≡ until = omega (arith, long) in
+      rw n at (still (length rest) (omega arith) (λ k d a b. eqb-false (get_or rest k d) 0xAA (not-true (eqb (get_or rest k d) 0xAA) (and_at (list_all is_quiet) is_quiet refl (λ _ _. refl) rest k d b e))))
+
+  -- what `position` finds
+  pub reaches-first : (r : Option ℕ) → MatchOption r (AllWithin (λ b. b ≢ 0xAA) rest 0 (length rest)) (λ i. (i < length rest) × HoldsAt (λ b. b ≡ 0xAA) rest i × AllWithin (λ b. b ≢ 0xAA) rest 0 i) → Reaches l from until (at + unwrap_or r (length rest))
+  reaches-first None w = record { noise = still (length rest) (omega arith) w; up_to = omega (arith, long); stops = inl (omega (arith, long)) }
+  reaches-first (Some i) w =
+      record { noise = still i (omega (arith, w.0)) w.2; up_to = omega (arith, long, w.0); stops = inr (sym (there i (omega (arith, long, w.0))) ∙ w.1 0) }
+
+-- one turn of a leap, which has a part of the stream left
+pub leap-on : (l : List ℕ) (from until : ℕ) (rest sixteen behind : List ℕ) → until ≤ length l → length rest ≤ until - from → rest ≡ part l (until - length rest) until → Noise l from (until - length rest)
+    → sixteen ≡ take 16 rest → behind ≡ drop 16 rest → length behind + 16 ≡ length rest → list_all is_quiet sixteen ≡ true
+    → (length behind ≤ until - from) × (behind ≡ part l (until - length behind) until) × Noise l from (until - length behind)
+leap-on l from until rest sixteen behind m fits is p front back n e =
+    let at : ℕ = until - length rest in
+    let next : until - length behind ≡ at + 16 = omega arith in
+    let k : at + 16 - at ≡ 16 = omega arith in
+    let f : drop 16 rest ≡ take (until - (at + 16)) (drop (at + 16) l) =
+    let j : until - at - 16 ≡ until - (at + 16) = omega arith in
+    ap (drop 16) is ∙ drop-take 16 (until - at) (drop at l) ∙ ap₂ take j (drop-drop 16 at l) in
+    let g : sixteen ≡ take (at + 16 - at) (drop at l) = front ∙ ap (take 16) is ∙ take-take 16 (until - at) (drop at l) (omega arith) ∙ ap (λ (x : ℕ). take x (drop at l)) (sym k) in
+    (omega arith, rw next (back ∙ f), rw next (noise-quiet l from at (at + 16) (omega arith) (omega arith) p (rw g at e)))
 
 -- a search that begins at another byte than AA goes on
 pub reaches-on : (l : List ℕ) (from until at : ℕ) → Reaches l from until at → from < until → (get_or l from 0 ≡ 0xAA → ⊥) → from < at

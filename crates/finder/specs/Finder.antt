@@ -1,15 +1,10 @@
 -- Inner contract: what the finder promises, for any set of heads: the bytes that it passed are skipped, and what stands where it stopped.
-use Rattle.std.specs.Prelude.{ℕ, zero, suc, ◌+◌, ◌≤◌, ◌<◌, ◌≡◌, ◌⊎◌, Bool, true, not, ◌&&◌, List, get_or, drop, eqb}
+use Rattle.std.specs.Prelude.{ℕ, ◌≤◌, ◌<◌, ◌≡◌, ◌⊎◌, List, get_or, drop}
 use Rattle.wire.specs.Frames.{Heads, look, Wait, Take, Tear, Passed}
 use Rattle.wire.specs.Serial.{Noise}
 use Rattle.finder.specs.declared.Seen.{Seen}
 use Rattle.finder.specs.declared.Seen.TheVariants.{Frame, Torn, NoMore}
 use Rattle.finder.specs.declared.Found.{Found}
-
--- none of n bytes from a place on is AA
-unfoldable pub no_aa : ℕ → List ℕ → ℕ → Bool
-no_aa zero s at = true
-no_aa (suc n) s at = no_aa n s at && not (eqb (get_or s (at + n) 0) 0xAA)
 
 -- the next AA, or the end of the search
 pub record Reaches (l : List ℕ) (from until at : ℕ) : Type 0 where

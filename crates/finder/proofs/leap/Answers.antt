@@ -1,20 +1,10 @@
--- `leap`: none of the bytes that are leapt over is AA.
-use native.Mathlib.Omega.{arith}
-use Rattle.wire.proofs.Stretches.{stretch-none}
-use Rattle.finder.proofs.FinderLaws.{noise-sixteen}
+-- `leap`: what is left is the end of the search, and none of the bytes before it is AA.
+use Rattle.std.proofs.Common.{◌∙◌, sym, arith}
+use Rattle.finder.proofs.FinderLaws.{leap-on}
 use Rattle.finder.proofs.leap.Goals as goal
 
-pub loop-at-init : goal.loop-at-init
-loop-at-init c = (stretch-none _ _ _ (omega arith), omega arith)
-
-pub returns-then-not-first-second : goal.returns-then-not-first-second
-returns-then-not-first-second c = c.loop-at.invariant
-
-pub loop-at-preserved : goal.loop-at-preserved
-loop-at-preserved c =
-    let l = c.loop-at in
-    let a = c.args in
-    (noise-sixteen a.s.now a.from l.at _ _ l.invariant.0 (omega arith) c.quiet_eight-first.ensures c.quiet_eight-second.ensures c.if-not-first-second.false, omega arith)
-
-pub returns : goal.returns
-returns c = c.loop-at.invariant
+pub loop-sixteen-preserved : goal.loop-sixteen-preserved
+loop-sixteen-preserved c =
+    let i = c.loop-sixteen.invariant in
+    let w = c.in-Some.ensures.cases in
+    leap-on c.args.s.now c.args.from c.args.until c.loop-sixteen.rest.now c.in-Some.sixteen.now c.in-Some.behind.now (omega arith) i.0 i.1 i.2 w.0 w.1 w.2 (sym c.quiet.ensures ∙ c.if-not-quiet.false)
