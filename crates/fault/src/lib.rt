@@ -9,14 +9,16 @@ ghost use Rattle.record.specs.Form.{fault_of};
 ghost use Rattle.form.specs.Groups.{head_fields, radio_fields, input_fields, switch_fields, name_fields, model_fields, pending_fields, pair_fields};
 ghost use Rattle.fault.specs.Rest.{held, held_all, in_turn, answers_of};
 
+use flags::flag_in;
 use form::{model_fine, name_fine, pending_fine};
 use limits::{INPUT_TYPE_MOST, MODE_MOST, ON_OFF_MOST, STEP_MOST, interval_fits, power_fits};
 use numbers::{half_at, word_at};
 use peak::{INFINITY, above, reach};
+use record::Flag;
 use record::places::{
     AT_FILTER, AT_FLAGS, AT_INPUTS, AT_INTERVAL, AT_MODE, AT_MODEL, AT_NAME, AT_NAME_LENGTH,
     AT_ON_OFF, AT_OUTPUTS, AT_PAIRS, AT_PENDING, AT_PENDING_LENGTH, AT_POWER, AT_SIZE, AT_STEP,
-    AT_TRIES, AT_VERSION, FILTERS, FOUR_BITS, NAME_ROOM, PAIRS, PENDING_ROOM, READING, RECORD_SIZE,
+    AT_TRIES, AT_VERSION, FILTERS, FOUR_BITS, NAME_ROOM, PAIRS, PENDING_ROOM, RECORD_SIZE,
     SIZE_FIELD, TRIES_MOST, VERSION,
 };
 
@@ -127,7 +129,7 @@ fn check_pairs(s: &[u8]) -> Result<(), u32>
     requires { record_size ≤ length s.now }
     ensures { result ≡ held_all (pair_fields s.now) }
 {
-    let seen = s[AT_FLAGS] / READING % 2 == 1;
+    let seen = flag_in(s[AT_FLAGS], Flag::Reading);
     for i in 0..PAIRS {
         let at = AT_PAIRS + 8 * i;
         check(pair_fine(s, at, seen), at)?;

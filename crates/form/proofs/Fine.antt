@@ -1,5 +1,5 @@
--- Name, model and pending bytes, as their functions test them; and the whole check.
-use Prim.Native.Nat.{ℕ, zero, suc, ◌+◌, ◌-◌, ◌≤◌, ◌<◌}
+-- Model and pending bytes, as their functions test them; and the whole check.
+use Prim.Native.Nat.{ℕ, zero, suc, ◌+◌, ◌-◌, ◌≤◌}
 use mathlib.Core.Path.{◌≡◌, refl, sym, ap, ap₂, ◌∙◌}
 use mathlib.Core.Bool.{Bool, true, false, ◌&&◌, and_assoc, and-true}
 use mathlib.Core.List.{List, [], ◌∷◌, ◌++◌}
@@ -7,17 +7,15 @@ use native.Mathlib.Omega.{arith}
 use lib.ListN.{length, get_or, take, drop}
 use lib.Seq.{take-take, drop-drop}
 use lib.Dec.{leb, eqb}
-use borrow.Author.Tests.{lt-leb, le-leb, eq-eqb, ne_eqb, eqb-true}
+use borrow.Author.Tests.{le-leb, eq-eqb, ne_eqb, eqb-true}
 use Rattle.wire.specs.Numbers.{bytes_at}
-use Rattle.wire.specs.Ranges.{fits}
 use Rattle.wire.specs.Zeros.{all_zero, zeros_behind, before_zero}
 use Rattle.wire.specs.Frames.{waits}
 use Rattle.wire.specs.Serial.{serial}
 use Rattle.wire.proofs.NumberLaws.{part-is, drop-take}
 use Rattle.wire.proofs.ScanLaws.{part, part-cons}
 use Rattle.wire.proofs.ZeroLaws.{behind-is}
-use Rattle.record.specs.Layout.{record_size, name_room, model_room, pending_room, at_name_length, at_name, at_model, at_pending_length, at_pending, at_pairs}
-use Rattle.record.specs.Limits.{name_range}
+use Rattle.record.specs.Layout.{record_size, model_room, pending_room, at_model, at_pending_length, at_pending, at_pairs}
 use Rattle.record.specs.Form.{Field, part_fits, all_fine, well_formed, form_by, form_of}
 use Rattle.record.specs.declared.Form.TheVariants.{Good, Bad}
 use Rattle.peak.proofs.PairLaws.{both}
@@ -49,26 +47,11 @@ both_first a b e = rw e refl
 both-not : (a b : Bool) → a ≡ false → (a && b) ≡ false
 both-not a b e = rw e refl
 
--- ---- the name
-
-module _ (s : List ℕ) where
-  abbrev name : ℕ
-  name = get_or s at_name_length 0
-
-  pub name-long : name_room < name → false ≡ all_fine (name_fields s)
-  name-long h = rw (lt-leb name name_room h) refl
-
-  pub name_by : name ≤ name_room → (l : List ℕ) (t : Bool) → l ≡ bytes_at name_room s at_name → t ≡ part_fits (λ k. fits (name_range k)) name l → t ≡ all_fine (name_fields s)
-  name_by h l t e f = f ∙ ap (part_fits (λ k. fits (name_range k)) name) e ∙ sym (fields-yes name name_room (part_fits (λ k. fits (name_range k)) name (bytes_at name_room s at_name)) h)
-
 -- ---- the pending bytes
 
 module _ (s : List ℕ) (whole : at_pairs ≤ length s) where
   abbrev waiting : ℕ
   waiting = get_or s at_pending_length 0
-
-  pub pending-long : pending_room < waiting → false ≡ all_fine (pending_fields s)
-  pending-long h = rw (lt-leb waiting pending_room h) refl
 
   module _ (h : waiting ≤ pending_room) where
     pending-is : all_fine (pending_fields s) ≡ (waits serial (take waiting (drop at_pending s)) && all_zero (part s (at_pending + waiting) at_pairs))
@@ -153,11 +136,11 @@ module _ (s : List ℕ) (whole : length s ≡ record_size) where
   by_chain = form-is s ∙ rw (eq-eqb (length s) record_size whole) refl
 
   -- a group that fails, and all that hold
-  pub bad : (k : ℕ) → all_fine (get_or (groups_of s) k []) ≡ false → Bad ≡ form_of s
-  bad k e = sym (by_chain ∙ ap form_by (chain-no (groups_of s) k e))
+  pub bad : (k : ℕ) → false ≡ all_fine (get_or (groups_of s) k []) → Bad ≡ form_of s
+  bad k e = sym (by_chain ∙ ap form_by (chain-no (groups_of s) k (sym e)))
 
-  pub good : all_fine (head_fields s) ≡ true → all_fine (radio_fields s) ≡ true → all_fine (input_fields s) ≡ true → all_fine (switch_fields s) ≡ true → all_fine (name_fields s) ≡ true
-      → all_fine (model_fields s) ≡ true → all_fine (pending_fields s) ≡ true → all_fine (pair_fields s) ≡ true → Good ≡ form_of s
+  pub good : true ≡ all_fine (head_fields s) → true ≡ all_fine (radio_fields s) → true ≡ all_fine (input_fields s) → true ≡ all_fine (switch_fields s) → true ≡ all_fine (name_fields s)
+      → true ≡ all_fine (model_fields s) → true ≡ all_fine (pending_fields s) → true ≡ all_fine (pair_fields s) → Good ≡ form_of s
   good e₀ e₁ e₂ e₃ e₄ e₅ e₆ e₇ =
-      let all : chain (groups_of s) ≡ true = rw (e₀, e₁, e₂, e₃, e₄, e₅, e₆, e₇) refl in
+      let all : chain (groups_of s) ≡ true = rw (sym e₀, sym e₁, sym e₂, sym e₃, sym e₄, sym e₅, sym e₆, sym e₇) refl in
       sym (by_chain ∙ ap form_by all)

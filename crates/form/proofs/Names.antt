@@ -5,19 +5,16 @@ use mathlib.Core.Logic.{⊎_elim}
 use mathlib.Core.Bool.{Bool, true, false, cond, ◌&&◌, and_assoc}
 use mathlib.Core.List.{List, [], ◌∷◌, ◌++◌}
 use native.Mathlib.Nat.{div-add-mod'}
-use native.Mathlib.Numerals.{add-one}
 use native.Mathlib.Omega.{arith}
 use lib.ListN.{take, drop}
 use lib.Seq.{drop-append-le, drop-append-add}
 use lib.Bits.{bit_and, and_block, and_zero_r}
 use lib.Dec.{leb, eqb}
 use borrow.Author.Tests.{lt-leb, le-leb, eq-eqb, ne_eqb}
-use Rattle.wire.specs.Numbers.{bytes_at}
 use Rattle.wire.specs.Ranges.{fits, also}
 use Rattle.wire.specs.Zeros.{all_zero}
 use Rattle.wire.specs.declared.Range.{Range}
 use Rattle.wire.specs.declared.Range.TheVariants.{Fits, Big}
-use Rattle.wire.proofs.NumberLaws.{part-part}
 use Rattle.low.specs.Low.{low_bytes}
 use Rattle.low.proofs.ZeroWords.{low-zero, zero-from, zero-append}
 use Rattle.peak.proofs.Patterns.{split}
@@ -137,9 +134,3 @@ module _ (low high n : ℕ) where
     named-long k =
         let e : n ≡ 8 + (n - 8) = omega arith in
         sym (zeros-left ∙ ap (λ (j : ℕ). all_zero (drop j room)) e ∙ ap all_zero (drop-append-add (low_bytes 8 low) (low_bytes 7 high) (n - 8)) ∙ zero-from (n - 8) 7 high seven)
-
--- the bytes of the words as they are read, the second word one byte early
-pub two-words : (s : List ℕ) (at low high : ℕ) → low_bytes 8 low ≡ bytes_at 8 s at → low_bytes 8 high ≡ bytes_at 8 s (at + 7) → low_bytes 8 low ++ low_bytes 7 (high / 256) ≡ bytes_at 15 s at
-two-words s at low high e f =
-    let n : at + 7 + 1 ≡ at + 8 = omega arith in
-    ap₂ (◌++◌) e (ap (drop 1) f ∙ ap (bytes_at 7 s) (sym (add-one (at + 7)) ∙ n)) ∙ part-part 8 7 s at

@@ -15,18 +15,19 @@ ghost use Rattle.low.specs.Low.{low_bytes};
 ghost use Rattle.form.specs.Groups.{head_fields, radio_fields, input_fields, switch_fields, name_fields, pending_fields, pair_fields};
 
 use buffer::heads::announced_by;
+use flags::flag_in;
 use limits::{INPUT_TYPE_MOST, MODE_MOST, ON_OFF_MOST, STEP_MOST, interval_fits, power_fits};
 use low::{all_zero, eight_at};
 use numbers::zeros::{first_zero, zeros};
 use numbers::{half_at, word_at};
 use peak::{INFINITY, above, reach};
-use record::Form;
 use record::places::{
     AT_FILTER, AT_FLAGS, AT_INPUTS, AT_INTERVAL, AT_MODE, AT_MODEL, AT_NAME, AT_NAME_LENGTH,
     AT_ON_OFF, AT_OUTPUTS, AT_PAIRS, AT_PENDING, AT_PENDING_LENGTH, AT_POWER, AT_SIZE, AT_STEP,
-    AT_TRIES, AT_VERSION, FILTERS, FOUR_BITS, MODEL_ROOM, NAME_ROOM, PAIRS, PENDING_ROOM, READING,
+    AT_TRIES, AT_VERSION, FILTERS, FOUR_BITS, MODEL_ROOM, NAME_ROOM, PAIRS, PENDING_ROOM,
     RECORD_SIZE, SIZE_FIELD, TRIES_MOST, VERSION,
 };
+use record::{Flag, Form};
 use wire::Line;
 
 fn head_fine(s: &[u8]) -> bool
@@ -147,15 +148,13 @@ fn pairs_seen(s: &[u8], from: usize) -> bool
     ensures { result ≡ all_fine (several channels 8 (λ k. pair_fits true (pair_at s.now (from + k))) from 0) }
 {
     let mut most = 0;
-    let mut i = 0;
-    while i < PAIRS {
+    for i in 0..PAIRS {
         let greatest = word_at(s, from + 8 * i);
         let smallest = word_at(s, from + 8 * i + 4);
         if above(smallest, greatest) {
             return false;
         }
         most = reach(reach(most, greatest), smallest);
-        i += 1;
     }
     most < INFINITY
 }
@@ -164,12 +163,13 @@ fn pairs_fine(s: &[u8]) -> bool
     requires { record_size ≤ length s.now }
     ensures { result ≡ all_fine (pair_fields s.now) }
 {
-    if s[AT_FLAGS] / READING % 2 == 1 {
+    if flag_in(s[AT_FLAGS], Flag::Reading) {
         return pairs_seen(s, AT_PAIRS);
     }
     all_zero(s, AT_PAIRS, RECORD_SIZE)
 }
 
+// A check answers a Form, as each check here answers an enum. It returns at each group: in one chain of `&&` the branches join nine deep, and its proof did not close.
 pub fn form_of(s: &[u8]) -> Form
     ensures { result ≡ form_of s.now }
 {
@@ -192,15 +192,11 @@ pub fn form_of(s: &[u8]) -> Form
         return Form::Bad;
     }
     // Mostly there is no model and nothing waits, and then no bytes are looked at one by one.
-    if !all_zero(s, AT_MODEL, AT_PENDING_LENGTH) {
-        if !model_fine(s, AT_MODEL) {
-            return Form::Bad;
-        }
+    if !all_zero(s, AT_MODEL, AT_PENDING_LENGTH) && !model_fine(s, AT_MODEL) {
+        return Form::Bad;
     }
-    if !all_zero(s, AT_PENDING_LENGTH, AT_PAIRS) {
-        if !pending_fine(s) {
-            return Form::Bad;
-        }
+    if !all_zero(s, AT_PENDING_LENGTH, AT_PAIRS) && !pending_fine(s) {
+        return Form::Bad;
     }
     if !pairs_fine(s) {
         return Form::Bad;

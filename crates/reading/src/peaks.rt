@@ -9,9 +9,11 @@ ghost use Rattle.record.specs.Reading.{reading_of};
 ghost use Rattle.reading.specs.Decoded.{decoded_at, There, Numbers, AllNumbers, words_at, finite_all, stored, seen_at, seen_up_to};
 
 use crate::Decoded;
+use flags::flag_in;
 use low::{four_at, put_four};
 use numbers::word_at;
 use peak::{INFINITY, Peak, finite_float, lowers, raises, reach, updated};
+use record::Flag;
 use record::places::{AT_FLAGS, AT_PAIRS, PAIRS, READING};
 use std::array::from_fn;
 
@@ -99,6 +101,6 @@ pub fn take_reading(rec: &mut [u8], x: [u32; PAIRS], sample: &[u8]) -> bool
     let flags = rec[AT_FLAGS];
     rec[AT_FLAGS] = flags | READING;
     let was = decode(rec, AT_PAIRS);
-    see_all(flags / 8 % 2 == 1, rec, AT_PAIRS, was, x, sample);
-    flags / 4 % 2 == 1
+    see_all(flag_in(flags, Flag::Reading), rec, AT_PAIRS, was, x, sample);
+    flag_in(flags, Flag::Sending)
 }

@@ -1,5 +1,4 @@
 -- `pairs_seen`: each pair in order, and the greatest of all patterns finite.
-use Prim.Native.Nat.{◌-◌, ◌≤◌}
 use mathlib.Core.Path.{◌≡◌}
 use mathlib.Core.Bool.{◌&&◌}
 use lib.Dec.{ltb}
@@ -8,7 +7,4 @@ use Rattle.form.proofs.Pairs.{left}
 use Rattle.form.proofs.pairs_seen.Given as goal
 
 abbrev pub invariant-loop-i : goal.invariant-loop-i
-invariant-loop-i l = (l.i ≤ channels) × (left l.s l.from channels 0 ≡ (ltb l.most 0x7F800000 && left l.s l.from channels l.i))
-
-abbrev pub decreases-loop-i : goal.decreases-loop-i
-decreases-loop-i l = channels - l.i
+invariant-loop-i l = left l.s l.from channels 0 ≡ (ltb l.most 0x7F800000 && left l.s l.from channels l.i)

@@ -1,15 +1,8 @@
 -- `pending_fine`: the tests of the pending length, bytes and zeros are those of their fields.
-use Rattle.form.proofs.Fine.{pending-long, pending-zeros, pending-bad}
+use Rattle.form.proofs.Fine.{pending-zeros, pending-bad}
 use mathlib.Core.Path.{sym, ◌∙◌}
 use native.Mathlib.Omega.{arith}
-use Rattle.record.specs.Layout.{at_pending_length}
 use Rattle.form.proofs.pending_fine.Goals as goal
-
-pub overflow_cast-n : goal.overflow_cast-n
-overflow_cast-n c = omega (arith, c.type_inv.s at_pending_length)
-
-pub returns-then-n-gt-PENDING_ROOM : goal.returns-then-n-gt-PENDING_ROOM
-returns-then-n-gt-PENDING_ROOM c = pending-long c.args.s.now c.requires c.if-n-gt-PENDING_ROOM.true
 
 pub returns-then-waiting_fine : goal.returns-then-waiting_fine
 returns-then-waiting_fine c = c.zeros.ensures ∙ pending-zeros c.args.s.now c.requires (omega (arith, c.if-n-gt-PENDING_ROOM.false)) (sym c.waiting_fine.ensures ∙ c.if-waiting_fine.true)

@@ -2,7 +2,7 @@
 use Prim.Native.Nat.{ℕ}
 use mathlib.Core.List.{List}
 use Rattle.record.proofs.Whole.{bytes-bytes}
-use mathlib.Core.Path.{refl, sym, ap, subst, ◌∙◌}
+use mathlib.Core.Path.{sym, ap, subst, ◌∙◌}
 use native.Mathlib.Omega.{arith}
 use lib.ListN.{length-set}
 use Rattle.wire.specs.Numbers.{Bytes}
@@ -39,4 +39,4 @@ returns c =
     let s = c.args.rec.now in
     let v = c.args.sample.now in
     let b : Bytes s = subst (λ (l : List ℕ). Bytes l) (sym c.requires.sound.same) (bytes-bytes (record_of s) c.requires.sound.fit) in
-    (refl, taken s v c.requires.sound b (λ i. (c.type_inv.sample i).fits) c.decode-was.result c.args.x c.decode-was.ensures c.requires.sample_len.1 _ c.see_all.ensures)
+    (c.flag_in-2.ensures, taken s v c.requires.sound b (λ i. (c.type_inv.sample i).fits) c.decode-was.result c.args.x c.decode-was.ensures c.requires.sample_len.1 _ (rw c.flag_in.ensures at c.see_all.ensures))
