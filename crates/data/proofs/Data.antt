@@ -1,36 +1,28 @@
 -- The data of replies as the code writes it: which bytes of a record it is, and how it comes to stand in a buffer.
-use Prim.Native.Nat.{ℕ, zero, suc, ◌+◌, ◌-◌, ◌*◌, ◌/◌, ◌%◌, ◌≤◌, ◌<◌}
+use Prim.Native.Nat.{ℕ, ◌+◌, ◌-◌, ◌≤◌, ◌<◌}
 use mathlib.Core.Path.{◌≡◌, refl, sym, ap, ◌∙◌}
-use mathlib.Core.Bool.{cond}
 use mathlib.Core.List.{List, [], ◌∷◌, ◌++◌, append-nil}
 use native.Mathlib.Nat.{add-sub_cancel_left}
 use native.Mathlib.Numerals.{towards_suc}
 use native.Mathlib.Omega.{arith}
-use lib.ListN.{length, get_or, take, drop, set, length-append}
+use lib.ListN.{length, get_or, take, drop, set, length-append, length-set}
 use lib.Seq.{length-take-le, take-take}
-use lib.Dec.{eqb}
 use borrow.Author.Tests.{lt-ltb, le-ltb}
 use Rattle.wire.specs.Sizes.{data_most}
 use Rattle.wire.specs.Numbers.{bytes_at, put}
 use Rattle.wire.specs.Zeros.{before_zero}
 use Rattle.wire.proofs.NumberLaws.{length_part, part-is}
 use Rattle.wire.proofs.PutLaws.{put-nil, put_one, put_two, put-put, put_byte}
-use Rattle.record.specs.Layout.{name_room, model_room, at_name, at_inputs, bit_of}
+use Rattle.record.specs.Layout.{name_room, model_room, at_name, at_inputs}
 use Rattle.wire.proofs.ZeroLaws.{cut-take, cut-le}
 use Rattle.record.proofs.Parts.{part_at}
 use Rattle.command.specs.Rows.{model_data}
 use Rattle.data.specs.PutsData.{PutsData}
 
--- ---- single bytes
+-- a store keeps the length
+pub ruleset kept = (length-set)
 
--- the second flag is worth 2
-lock-byte : (flags : ℕ) → cond (bit_of flags 2) 0x08 0x00 ≡ flags / 2 % 2 * 8
-lock-byte flags = go (flags / 2 % 2) (omega arith)
-  where
-    go : (b : ℕ) → b < 2 → cond (eqb b 1) 0x08 0x00 ≡ b * 8
-    go zero h = refl
-    go (suc zero) h = refl
-    go (suc (suc b)) h = absurd (let z : ⊥ = omega arith in z)
+-- ---- a single byte
 
 input-byte : (s : List ℕ) (k : ℕ) → 2 ≤ k → k ≤ 6 → get_or (bytes_at 5 s at_inputs) (k - 2) 0 ≡ get_or s (k + 12) 0
 input-byte s k l h =
@@ -48,9 +40,6 @@ module _ (d : List ℕ) (at : ℕ) (room : at + data_most ≤ length d) where
 
   pub answers-two : (a b : ℕ) → PutsData d at (a ∷ b ∷ []) 2 (set (set d at a) (at + 1) b)
   answers-two a b = (refl, omega arith, put_two d at a b (omega arith))
-
-  pub answers-lock : (flags : ℕ) → PutsData d at (cond (bit_of flags 2) 0x08 0x00 ∷ []) 1 (set d at (flags / 2 % 2 * 8))
-  answers-lock flags = rw (lock-byte flags) (answers_one (flags / 2 % 2 * 8))
 
   pub answers-input : (s : List ℕ) (k : ℕ) → 2 ≤ k → k ≤ 6 → PutsData d at (get_or (bytes_at 5 s at_inputs) (k - 2) 0 ∷ []) 1 (set d at (get_or s (k + 12) 0))
   answers-input s k l h = rw (input-byte s k l h) (answers_one (get_or s (k + 12) 0))

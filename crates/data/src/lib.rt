@@ -1,5 +1,5 @@
 // The data of the reply to a command that is carried out, one function for each kind, in a buffer from a place on.
-#![tactic(auto)]
+#![tactic(auto, using(crate::proofs::Data::kept))]
 
 ghost use Rattle.std.specs.Prelude.{◌≡◌, cond, [], ◌∷◌, ◌+◌, ◌-◌, ◌*◌, ◌≤◌, length, get_or, take};
 ghost use Rattle.wire.specs.Sizes.{data_most};
@@ -10,11 +10,12 @@ ghost use Rattle.record.specs.Settings.{setting_place, setting_width};
 ghost use Rattle.command.specs.Rows.{model_data};
 ghost use Rattle.data.specs.PutsData.{PutsData};
 
-use limits::{place_of, width_of};
+use flags::flag_in;
+use limits::sheet_of;
 use numbers::put_number;
 use numbers::zeros::first_zero;
-use record::Setting;
 use record::places::{AT_NAME, AT_NAME_LENGTH, BEFORE_INPUTS, MODEL_ROOM};
+use record::{Flag, Setting};
 use words::put_few;
 
 pub fn put_two(out: &mut [u8], at: usize, a: u8, b: u8) -> usize
@@ -30,7 +31,11 @@ pub fn put_lock(out: &mut [u8], at: usize, flags: u8) -> usize
     requires { at + data_most ≤ length out.old }
     ensures { PutsData out.old at (cond (bit_of flags 2) 0x08 0x00 ∷ []) result out.new }
 {
-    out[at] = flags / 2 % 2 * 8;
+    out[at] = if flag_in(flags, Flag::Unlocked) {
+        0x08
+    } else {
+        0x00
+    };
     1
 }
 
@@ -49,8 +54,9 @@ pub fn put_setting(out: &mut [u8], at: usize, rec: &[u8], k: Setting) -> usize
     requires { (setting_place k + setting_width k ≤ length rec.now) × (at + data_most ≤ length out.old) }
     ensures { PutsData out.old at (bytes_at (setting_width k) rec.now (setting_place k)) result out.new }
 {
-    let n = width_of(k);
-    put_number(out, at, rec, place_of(k), n);
+    let sheet = sheet_of(k);
+    let n = sheet.width;
+    put_number(out, at, rec, sheet.place, n);
     n
 }
 

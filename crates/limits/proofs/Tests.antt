@@ -1,18 +1,18 @@
 -- What the code tests of a byte or a word is what its range asks.
-use Prim.Native.Nat.{ℕ, ◌+◌, ◌-◌, ◌≤◌, ◌<◌}
-use mathlib.Core.Path.{◌≡◌, refl}
-use mathlib.Core.List.{List}
-use mathlib.Core.Bool.{Bool, true, false, cond, ◌&&◌, ◌||◌}
+use Prim.Native.Nat.{ℕ, ◌-◌, ◌≤◌, ◌<◌}
+use mathlib.Core.Path.{◌≡◌, refl, sym}
+use mathlib.Core.List.{List, [], ◌∷◌}
+use mathlib.Core.Bool.{Bool, true, false, cond, ◌&&◌, ◌||◌, true≢false}
 use native.Mathlib.Nat.{pos_of_ne-zero}
 use native.Mathlib.Omega.{arith}
-use lib.ListN.{length, get_or}
 use lib.Dec.{ltb, leb, eqb}
 use lib.IntN.{pos, negsuc}
-use borrow.Author.Tests.{ltb-false, leb-true, leb-false, eqb-true, eqb-false, lt-ltb, le-ltb, le-leb, lt-leb}
+use borrow.Author.Tests.{ltb-false, leb-true, leb-false, eqb-true, eqb-false, lt-ltb, le-ltb, le-leb}
 use Rattle.wire.specs.Numbers.{signed8}
-use Rattle.wire.specs.Ranges.{fits, within}
+use Rattle.std.specs.Prelude.{◌↔◌, IsTrue, All}
+use Rattle.std.proofs.lemmas.List.Elements.{All-nil, All-cons, All-head, All-tail}
+use Rattle.wire.specs.Ranges.{fits, within, also}
 use Rattle.wire.specs.declared.Range.TheVariants.{Fits, Big, Small}
-use Rattle.wire.proofs.ScanLaws.{part, part_none, part-cons}
 use Rattle.record.specs.Limits.{power_range, interval_range, filter_range, name_range}
 use Rattle.record.proofs.Bounds.{interval-range, power-range}
 
@@ -61,17 +61,29 @@ fits-filter w = go (ltb w 64)
     go true = refl
     go false = refl
 
--- ---- the bytes of a name, one at a time
+-- ---- the bytes of a name
 
-module _ (s : List ℕ) (at to : ℕ) where
-  pub name-skip : at < to → to ≤ length s → get_or s at 0 ≤ 0x7F → name_range (part s at to) ≡ name_range (part s (at + 1) to)
-  unfolding name_range
-  name-skip h l e = rw (part-cons s at to h l, le-leb (get_or s at 0) 0x7F e) refl
+abbrev low : ℕ → Type 0
+low b = b ≤ 0x7F
 
-  pub name-hit : at < to → to ≤ length s → 0x7F < get_or s at 0 → fits (name_range (part s at to)) ≡ false
-  unfolding name_range
-  name-hit h l e = rw (part-cons s at to h l, lt-leb (get_or s at 0) 0x7F e) refl
+name-fine : (s : List ℕ) → All low s → fits (name_range s) ≡ true
+unfolding name_range
+name-fine [] a = refl
+name-fine (b ∷ s) a = rw (le-leb b 0x7F (All-head low b s a)) (name-fine s (All-tail low b s a))
 
-  pub name-end : to ≤ at → fits (name_range (part s at to)) ≡ true
-  unfolding name_range
-  name-end h = rw (part_none s at to h) refl
+name-low : (s : List ℕ) → fits (name_range s) ≡ true → All low s
+unfolding name_range
+name-low [] e = All-nil low
+name-low (b ∷ s) e = go (leb b 0x7F) refl e (name-low s)
+  where
+    go : (t : Bool) → leb b 0x7F ≡ t → fits (also (cond t Fits Big) (name_range s)) ≡ true → (fits (name_range s) ≡ true → All low s) → All low (b ∷ s)
+    go true q e more = All-cons low b s (leb-true b 0x7F q) (more e)
+    go false q e more = absurd (true≢false (sym e))
+
+pub name-is : (s : List ℕ) (r : Bool) → (IsTrue r ↔ All (λ b. b ≤ 0x7F) s) → r ≡ fits (name_range s)
+name-is s true h = sym (name-fine s (h.0 refl))
+name-is s false h = go (fits (name_range s)) refl
+  where
+    go : (t : Bool) → fits (name_range s) ≡ t → false ≡ t
+    go true e = h.1 (name-low s e)
+    go false e = refl

@@ -1,7 +1,7 @@
 // The range, the place and the width of each setting in code.
 #![tactic(auto)]
 
-ghost use Rattle.std.specs.Prelude.{◌≡◌, ◌-◌, ◌≤◌, length, take, drop};
+ghost use Rattle.std.specs.Prelude.{◌≡◌};
 ghost use Rattle.wire.specs.Ranges.{fits};
 ghost use Rattle.record.specs.Limits.{power_range, interval_range, name_range};
 ghost use Rattle.record.specs.Settings.{sheet_of, setting_place, setting_width};
@@ -29,44 +29,43 @@ pub const INTERVAL_MOST: u8 = 59;
 
 pub const NAME_BYTE_MOST: u8 = 0x7F;
 
-// The kind of range of a setting that is one number, where it stands, and in how many bytes.
-pub fn limits_of(k: Setting) -> Limits
-    ensures { result ≡ (sheet_of k).limits }
+// What the code goes by for a setting that is one number: the kind of its range, where it stands, and in how many bytes.
+#[derive(Clone, Copy)]
+pub struct Sheet {
+    pub limits: Limits,
+    pub place: usize,
+    pub width: usize,
+}
+
+fn row(limits: Limits, place: usize, width: usize) -> Sheet
+    ensures { (result.limits ≡ limits) × (result.place ≡ place) × (result.width ≡ width) }
+{
+    Sheet {
+        limits,
+        place,
+        width,
+    }
+}
+
+pub fn sheet_of(k: Setting) -> Sheet
+    ensures limits { result.limits ≡ (sheet_of k).limits }
+    ensures place { result.place ≡ setting_place k }
+    ensures width { result.width ≡ setting_width k }
 {
     match k {
-        Setting::Power => Limits::OfPower,
-        Setting::Step => Limits::Upto(STEP_MOST),
-        Setting::Mode => Limits::Upto(MODE_MOST),
-        Setting::OnOff => Limits::Upto(ON_OFF_MOST),
-        Setting::Interval => Limits::OfInterval,
-        Setting::Filter => Limits::OfFilter,
+        Setting::Power => row(Limits::OfPower, AT_POWER, 2),
+        Setting::Step => row(Limits::Upto(STEP_MOST), AT_STEP, 1),
+        Setting::Mode => row(Limits::Upto(MODE_MOST), AT_MODE, 1),
+        Setting::OnOff => row(Limits::Upto(ON_OFF_MOST), AT_ON_OFF, 1),
+        Setting::Interval => row(Limits::OfInterval, AT_INTERVAL, 1),
+        Setting::Filter => row(Limits::OfFilter, AT_FILTER, 4),
     }
 }
 
 pub fn place_of(k: Setting) -> usize
     ensures { result ≡ setting_place k }
 {
-    match k {
-        Setting::Power => AT_POWER,
-        Setting::Step => AT_STEP,
-        Setting::Mode => AT_MODE,
-        Setting::OnOff => AT_ON_OFF,
-        Setting::Interval => AT_INTERVAL,
-        Setting::Filter => AT_FILTER,
-    }
-}
-
-pub fn width_of(k: Setting) -> usize
-    ensures { result ≡ setting_width k }
-{
-    match k {
-        Setting::Power => 2,
-        Setting::Step => 1,
-        Setting::Mode => 1,
-        Setting::OnOff => 1,
-        Setting::Interval => 1,
-        Setting::Filter => 4,
-    }
+    sheet_of(k).place
 }
 
 pub fn power_fits(w: u16) -> bool
@@ -81,17 +80,9 @@ pub fn interval_fits(b: u8) -> bool
     (b == 0) | ((INTERVAL_LEAST <= b) & (b <= INTERVAL_MOST))
 }
 
-// Whether the bytes from a place up to another may stand in a name.
-pub fn name_bytes(s: &[u8], from: usize, to: usize) -> bool
-    requires { (from ≤ to) × (to ≤ length s.now) }
-    ensures { result ≡ fits (name_range (take (to - from) (drop from s.now))) }
+// Whether the bytes may stand in a name.
+pub fn name_bytes(s: &[u8]) -> bool
+    ensures { result ≡ fits (name_range s.now) }
 {
-    let mut at = from;
-    while at < to {
-        if s[at] > NAME_BYTE_MOST {
-            return false;
-        }
-        at += 1;
-    }
-    true
+    s.iter().all(|b| *b <= NAME_BYTE_MOST)
 }

@@ -4,7 +4,7 @@ use mathlib.Core.Path.{◌≡◌, refl, ap, ◌∙◌}
 use mathlib.Core.Bool.{Bool}
 use mathlib.Core.List.{List, [], ◌∷◌, ◌++◌, append-nil}
 use native.Mathlib.Omega.{arith}
-use lib.ListN.{length, get_or, set, replicate, drop_of_length-le}
+use lib.ListN.{length, get_or, set, replicate, length-set, drop_of_length-le}
 use lib.Dec.{eqb}
 use lib.Bits.{bit_and, bit_or}
 use borrow.Author.Tests.{eqb-true}
@@ -13,6 +13,7 @@ use Rattle.wire.proofs.PutLaws.{put-zero}
 use Rattle.record.specs.Layout.{record_size, version, at_flags, at_tries, at_outputs, at_name_length, at_name, at_pending_length, nibble, bytes_of}
 use Rattle.record.specs.Births.{factory_name, factory, powered_on}
 use Rattle.record.specs.InPlace.{Turns}
+use Rattle.record.proofs.InPlaceLaws.{sound-long}
 use Rattle.record.proofs.Choices.{sixteen-each}
 
 abbrev head : List ℕ
@@ -30,6 +31,8 @@ stored = refl
 
 pub factory-stores : (d x y z : List ℕ) → length d ≡ record_size → x ≡ put d 0 blank → y ≡ put x 0 head → z ≡ put (set y at_name_length 11) at_name factory_name → z ≡ bytes_of factory
 factory-stores d x y z h e₁ e₂ e₃ = e₃ ∙ ap (λ (l : List ℕ). put (set l at_name_length 11) at_name factory_name) (e₂ ∙ ap (λ (l : List ℕ). put l 0 head) (e₁ ∙ cleared d h)) ∙ stored
+
+pub ruleset there = (sound-long, length-set)
 
 fresh-flags : (a b c d : Bool) → bit_or (bit_and (nibble a b c d) 244) 4 ≡ 4
 fresh-flags a b c d = eqb-true (bit_or (bit_and (nibble a b c d) 244) 4) 4 (sixteen-each (λ a b c d. eqb (bit_or (bit_and (nibble a b c d) 244) 4) 4) refl a b c d)

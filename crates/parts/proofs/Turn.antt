@@ -13,10 +13,19 @@ use Rattle.wire.proofs.PutLaws.{put-sets}
 use Rattle.words.proofs.WordLaws.{put-within}
 use Rattle.record.specs.Record.{with_name, with_settings, with_model, with_pending}
 use Rattle.record.specs.Layout.{NamePart, ModelPart, name_room, model_room, at_name_length, at_name}
-use Rattle.record.specs.InPlace.{TurnsAt, TurnsPending}
+use Rattle.record.specs.InPlace.{SoundAt, TurnsAt, TurnsPending}
 use Rattle.wire.proofs.ZeroLaws.{padded, cut-take}
 use Rattle.record.proofs.Stores.{set-name_in, set-model_in, set-pending_in}
-use Rattle.record.proofs.InPlaceLaws.{turns_at}
+use Rattle.record.proofs.InPlaceLaws.{turns_at, reaches}
+
+-- the bytes are there, behind a store too
+pub name_there : (s : List ℕ) → SoundAt NamePart at_name_length s → at_name + name_room ≤ length s
+name_there s h = reaches NamePart at_name_length s h
+
+pub model_there : (s : List ℕ) (at : ℕ) → SoundAt ModelPart at s → at + model_room ≤ length s
+model_there s at h = reaches ModelPart at s h
+
+pub ruleset there = (name_there, length-set)
 
 module _ (s : List ℕ) where
   module _ (p : List ℕ) where

@@ -1,4 +1,6 @@
 // The two records that no command makes.
+#![tactic(auto, using(crate::proofs::Stores::there))]
+
 ghost use Rattle.std.specs.Prelude.{◌≡◌, length};
 ghost use Rattle.record.specs.Layout.{record_size, bytes_of};
 ghost use Rattle.record.specs.Births.{factory, powered_on};

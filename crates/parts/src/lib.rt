@@ -1,5 +1,5 @@
 // Name, model and pending bytes of a record stored in its bytes, with zeros behind them, in every layout that has them at these places.
-#![tactic(auto)]
+#![tactic(auto, using(crate::proofs::Turn::there))]
 
 pub mod fresh;
 

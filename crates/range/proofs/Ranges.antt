@@ -1,25 +1,32 @@
 -- What the code finds of a parameter is what its range says.
-use Prim.Native.Nat.{ℕ, ◌-◌, ◌≤◌}
+use Prim.Native.Nat.{ℕ, ◌≤◌}
 use mathlib.Core.Path.{◌≡◌, refl, sym, ap, ◌∙◌}
 use mathlib.Core.Bool.{Bool, true, false, cond, ◌&&◌, true≢false}
 use mathlib.Core.List.{List, [], ◌∷◌}
-use native.Mathlib.Omega.{arith}
-use lib.ListN.{length, take, drop}
-use lib.Seq.{take_all}
 use lib.Dec.{ltb, leb}
 use Rattle.wire.specs.Ranges.{fits, also}
 use Rattle.wire.specs.declared.Range.{Range}
 use Rattle.wire.specs.declared.Range.TheVariants.{Fits, Big, Small}
 use Rattle.record.specs.declared.Setting.{Setting}
 use Rattle.record.specs.declared.Limits.{Limits}
-use Rattle.record.specs.Settings.{looks_at, sheet_of, setting_width}
+use Rattle.record.specs.Layout.{current}
+use Rattle.record.specs.Settings.{range_by, looks_at, sheet_of, setting_width}
 use Rattle.record.proofs.SettingLaws.{looks-wide}
 use Rattle.record.specs.Limits.{power_range, interval_range, name_range}
-use Rattle.record.proofs.Bounds.{power-range, interval-range}
+use Rattle.record.proofs.Bounds.{power-range, interval-range, signed_range}
+use borrow.Author.Tests.{lt-ltb, le-ltb}
 
--- what a setting's range looks at is there
-pub as_long : (k : Setting) (x : Limits) → (sheet_of k).limits ≡ x → (n : ℕ) → setting_width k ≤ n → looks_at x ≤ n
-as_long k x e n h = rw (← e, looks-wide k) h
+-- what an order says of its test
+pub ruleset tested = (lt-ltb, le-ltb, signed_range)
+
+-- x, the kind of a setting's range as the code has it, turns out to be y
+module _ (k : Setting) (x : Limits) (kind : x ≡ (sheet_of k).limits) (y : Limits) (told : x ≡ y) where
+  -- what it looks at is there
+  pub as_long : (n : ℕ) → setting_width k ≤ n → looks_at y ≤ n
+  as_long n h = rw (← told, kind, looks-wide k) h
+
+  pub as_told : (p : List ℕ) → range_by y current p ≡ range_by (sheet_of k).limits current p
+  as_told p = ap (λ (z : Limits). range_by z current p) (sym told ∙ kind)
 
 -- on which side a value is that does not fit
 abbrev pub side : Bool → Range
@@ -45,7 +52,7 @@ interval-missed b = rw (interval-range b) (by (ltb b 128) (ltb 59 b) (ltb 0 b &&
     by false false gap e = refl
 
 -- a name is never too small
-name-range : (p : List ℕ) → name_range p ≡ cond (fits (name_range p)) Fits Big
+pub name-range : (p : List ℕ) → name_range p ≡ cond (fits (name_range p)) Fits Big
 unfolding name_range
 name-range [] = refl
 name-range (b ∷ p) = by (leb b 0x7F) (name_range p) (name-range p)
@@ -53,14 +60,3 @@ name-range (b ∷ p) = by (leb b 0x7F) (name_range p) (name-range p)
     by : (t : Bool) (x : Range) → x ≡ cond (fits x) Fits Big → also (cond t Fits Big) x ≡ cond (fits (also (cond t Fits Big) x)) Fits Big
     by true x e = e
     by false x e = refl
-
--- the code tests the whole list as a part of it
-module _ (p : List ℕ) where
-  whole : take (length p - 0) (drop 0 p) ≡ p
-  whole = take_all (length p - 0) p (omega arith)
-
-  pub name-fits : fits (name_range (take (length p - 0) (drop 0 p))) ≡ true → name_range p ≡ Fits
-  name-fits h = name-range p ∙ ap (λ (t : Bool). cond t Fits Big) (ap (λ (l : List ℕ). fits (name_range l)) (sym whole) ∙ h)
-
-  pub name-big : fits (name_range (take (length p - 0) (drop 0 p))) ≡ false → name_range p ≡ Big
-  name-big h = name-range p ∙ ap (λ (t : Bool). cond t Fits Big) (ap (λ (l : List ℕ). fits (name_range l)) (sym whole) ∙ h)

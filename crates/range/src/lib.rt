@@ -1,5 +1,5 @@
 // 54, 55: whether the parameters of a command are in their ranges, from the left.
-#![tactic(auto)]
+#![tactic(auto, using(crate::proofs::Ranges::tested))]
 
 ghost use Rattle.std.specs.Prelude.{◌≡◌, ◌≤◌, length, get_or, pos};
 ghost use Rattle.wire.specs.Numbers.{signed8};
@@ -9,7 +9,7 @@ ghost use Rattle.record.specs.Limits.{power_range, input_range, interval_range, 
 ghost use Rattle.record.specs.Settings.{range_by, sheet_of, setting_width};
 ghost use Rattle.command.specs.Rows.{input_channel, output_number, output_value, pair_channel};
 
-use limits::{INPUT_TYPE_MOST, INTERVAL_MOST, interval_fits, limits_of, name_bytes, power_fits};
+use limits::{INPUT_TYPE_MOST, INTERVAL_MOST, interval_fits, name_bytes, power_fits, sheet_of};
 use numbers::{half_at, word_at};
 use record::places::{CHANNELS, FILTERS};
 use record::{Limits, Setting};
@@ -75,7 +75,7 @@ fn filter_range(bound: u32, w: u32) -> Range
 pub fn name_range(p: &[u8]) -> Range
     ensures { result ≡ name_range p.now }
 {
-    if name_bytes(p, 0, p.len()) {
+    if name_bytes(p) {
         return Range::Fits;
     }
     Range::Big
@@ -87,8 +87,7 @@ fn both_ranges(first: Range, second: Range) -> Range
 {
     match first {
         Range::Fits => second,
-        Range::Big => Range::Big,
-        Range::Small => Range::Small,
+        missed => missed,
     }
 }
 
@@ -97,7 +96,7 @@ pub fn setting_range(k: Setting, p: &[u8]) -> Range
     requires { setting_width k ≤ length p.now }
     ensures { result ≡ range_by (sheet_of k).limits current p.now }
 {
-    let limits = limits_of(k);
+    let limits = sheet_of(k).limits;
     match limits {
         Limits::Upto(most) => signed_range(0, most, p[0]),
         Limits::OfPower => power_range(half_at(p, 0)),

@@ -1,5 +1,5 @@
 -- A store in the bytes of a record is the change of its field, in the words of the code that stores.
-use Prim.Native.Nat.{ℕ, zero, suc, ◌+◌, ◌-◌, ◌*◌, ◌%◌, ◌^◌, ◌≤◌}
+use Prim.Native.Nat.{ℕ, zero, suc, ◌+◌, ◌-◌, ◌*◌, ◌%◌, ◌^◌, ◌≤◌, ◌<◌}
 use mathlib.Core.Path.{◌≡◌, refl}
 use mathlib.Core.Bool.{true, false}
 use mathlib.Core.List.{List}
@@ -17,13 +17,23 @@ use Rattle.record.specs.declared.Setting.{Setting}
 use Rattle.record.specs.Record.{with_output, with_inputs, with_settings, with_outputs}
 use Rattle.record.specs.Layout.{InputBytes, OutputByte, at_inputs, at_outputs}
 use Rattle.record.specs.Settings.{sheet_of, setting_width}
-use Rattle.record.specs.InPlace.{TurnsAt}
+use Rattle.record.specs.InPlace.{SoundAt, TurnsAt}
 use Rattle.record.proofs.Choices.{below_each}
 use Rattle.record.proofs.Stores.{set-input_in, set-output_in}
-use Rattle.record.proofs.SettingLaws.{set-setting_in}
-use Rattle.record.proofs.InPlaceLaws.{turns_at}
+use Rattle.record.proofs.SettingLaws.{setting-wide, set-setting_in}
+use Rattle.record.proofs.InPlaceLaws.{turns_at, reaches}
 
 module _ (s : List ℕ) where
+  -- the bytes are there
+  pub inputs_there : SoundAt InputBytes at_inputs s → at_inputs + 5 ≤ length s
+  inputs_there h = reaches InputBytes at_inputs s h
+
+  pub outputs_there : SoundAt OutputByte at_outputs s → at_outputs < length s
+  outputs_there h = reaches OutputByte at_outputs s h
+
+  pub setting-there : (at : ℕ) (k : Setting) → SoundAt (sheet_of k).part at s → at + setting_width k ≤ length s
+  setting-there at k h = rw (← setting-wide h.plan k) (reaches (sheet_of k).part at s h)
+
   module _ (v : ℕ) where
     pub turn-input : (k : ℕ) → 2 ≤ k → k ≤ 6 → TurnsAt InputBytes at_inputs s (set s (k + 12) v) (λ r. with_settings r (with_inputs r.settings (set r.settings.inputs (k - 2) v)))
     turn-input k l h =

@@ -1,5 +1,5 @@
 // Settings and outputs of a record stored in its bytes, in every layout that has them at these places.
-#![tactic(auto)]
+#![tactic(auto, using(crate::proofs::Turn::inputs_there, crate::proofs::Turn::outputs_there))]
 
 ghost use Rattle.std.specs.Prelude.{◌≡◌, ◌-◌, ◌^◌, ◌≤◌, length, set, eqb};
 ghost use Rattle.record.specs.Record.{with_output, with_inputs, with_settings, with_outputs};
@@ -7,7 +7,7 @@ ghost use Rattle.record.specs.Layout.{InputBytes, OutputByte, at_inputs, at_outp
 ghost use Rattle.record.specs.Settings.{sheet_of, setting_width};
 ghost use Rattle.record.specs.InPlace.{SoundAt, TurnsAt};
 
-use limits::width_of;
+use limits::sheet_of;
 use numbers::put_number;
 use record::Setting;
 use record::places::{AT_OUTPUTS, BEFORE_INPUTS};
@@ -18,7 +18,7 @@ pub fn store(rec: &mut [u8], at: usize, k: Setting, p: &[u8])
     requires p_len { length p.now ≡ setting_width k }
     ensures { TurnsAt (sheet_of k).part at rec.old rec.new (λ r. with_settings r ((sheet_of k).stored r.settings p.now)) }
 {
-    put_number(rec, at, p, 0, width_of(k));
+    put_number(rec, at, p, 0, sheet_of(k).width);
 }
 
 pub fn set_input(rec: &mut [u8], channel: u8, v: u8)

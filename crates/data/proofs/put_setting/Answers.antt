@@ -8,13 +8,13 @@ use Rattle.data.proofs.put_setting.Goals as goal
 
 pub put_number-requires : goal.put_number-requires
 put_number-requires c =
-    let n = c.width_of-n.ensures in
+    let n = c.sheet_of-sheet.ensures.width in
     let w = widths c.args.k in
-    record { narrow = rw n w; n_in_bounds = (omega (arith, n, narrow (setting_width c.args.k) w, c.requires), omega (arith, n, c.place_of.ensures, c.requires)) }
+    record { narrow = rw n w; n_in_bounds = (omega (arith, n, narrow (setting_width c.args.k) w, c.requires), omega (arith, n, c.sheet_of-sheet.ensures.place, c.requires)) }
 
 pub returns : goal.returns
 returns c =
     let a = c.args in
-    let n = c.width_of-n.ensures in
+    let n = c.sheet_of-sheet.ensures.width in
     let e = c.put_number.ensures in
-    rw n (answers_number a.out.now a.at c.requires.1 a.rec.now (setting_place a.k) (setting_width a.k) c.put_number.new.buffer (narrow (setting_width a.k) (widths a.k)).1 (rw (n, c.place_of.ensures) at e))
+    rw n (answers_number a.out.now a.at c.requires.1 a.rec.now (setting_place a.k) (setting_width a.k) c.put_number.new.buffer (narrow (setting_width a.k) (widths a.k)).1 (rw (n, c.sheet_of-sheet.ensures.place) at e))

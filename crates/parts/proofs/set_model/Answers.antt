@@ -1,22 +1,16 @@
 -- `set_model`: the bytes before the first zero become the model.
-use Prim.Native.Nat.{◌+◌, ◌-◌, ◌≤◌}
-use lib.ListN.{length}
-use Rattle.record.specs.Layout.{ModelPart, model_room}
-use Rattle.record.proofs.InPlaceLaws.{reaches}
-use Rattle.parts.proofs.Turn.{turn-model}
+use Prim.Native.Nat.{◌+◌, ◌-◌}
+use Rattle.record.specs.Layout.{model_room}
+use Rattle.parts.proofs.Turn.{model_there, turn-model}
 use native.Mathlib.Omega.{arith}
 use borrow.Author.Rules.{rules}
 use Rattle.parts.proofs.set_model.Goals as goal
 
 pub overflow_add-at : goal.overflow_add-at
-overflow_add-at c =
-    let whole : c.args.at + model_room ≤ length c.args.rec.now = reaches ModelPart c.args.at c.args.rec.now c.requires.sound_at in
-    omega (arith, whole)
+overflow_add-at c = omega (arith, model_there c.args.rec.now c.args.at c.requires.sound_at)
 
 pub put_part-requires : goal.put_part-requires
-put_part-requires c =
-    let whole : c.args.at + model_room ≤ length c.args.rec.now = reaches ModelPart c.args.at c.args.rec.now c.requires.sound_at in
-    search (rules, whole)
+put_part-requires c = search (rules, model_there c.args.rec.now c.args.at c.requires.sound_at)
 
 pub returns : goal.returns
 returns c =
