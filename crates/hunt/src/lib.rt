@@ -40,6 +40,7 @@ pub fn room_for(held: usize, len: usize) -> usize
 }
 
 // Hunts through s, for the heads of a line, up to the first piece that begins at `until` or later; writes the replies from a place on.
+// The line is a value: with one line a trait or a type parameter is no plainer.
 #[tactic(auto, using(crate::proofs::GoingLaws::frame_whole))]
 fn hunt_in(
     line: Line,

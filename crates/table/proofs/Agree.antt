@@ -29,8 +29,8 @@ unfolding entries
 table-is = agree-is ENTRIES entries tt
 
 -- what stands in it at a number's place is what the rows say
-pub code-says : (head number i : ℕ) → number < kind_size → i ≡ place_of head number → (unpacked (get_or ENTRIES i 0) ≡ rows_say head number) × (is_tidy (get_or ENTRIES i 0) ≡ true)
-code-says head number i few at = by ENTRIES table-is
+pub code_says : (head number i : ℕ) → number < kind_size → i ≡ place_of head number → (unpacked (get_or ENTRIES i 0) ≡ rows_say head number) × (is_tidy (get_or ENTRIES i 0) ≡ true)
+code_says head number i few at = by ENTRIES table-is
   where
     by : (es : List ℕ) → es ≡ entries → (unpacked (get_or es i 0) ≡ rows_say head number) × (is_tidy (get_or es i 0) ≡ true)
     by es is = rw (is, at) (entry-says head number few, entry-tidy head number few)

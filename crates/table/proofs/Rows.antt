@@ -79,3 +79,8 @@ module _ (e n : ℕ) where
       by : (t : Bool) → ltb span 5 ≡ t → Right ≡ counted_in (span_in e) n
       by true q = count-exact (ltb-true span 5 q) h
       by false q = count-right (ltb-false span 5 q) (omega arith) (omega arith)
+
+-- what `check_number` and `check_count` ask
+pub ruleset numbering = (as-command, as-unknown, as-unbuilt)
+
+pub ruleset counting = (count_same, count-other, count_low, count-high, count-right)

@@ -37,6 +37,7 @@ pub fn entry_of(head: u8, number: u8) -> u8
 }
 
 // 40, 41: whether the number is that of a command.
+#[tactic(auto, using(crate::proofs::Rows::numbering))]
 pub fn check_number(entry: u8) -> Numbered
     ensures { result ≡ numbered_by (unpacked entry) }
 {
@@ -56,6 +57,7 @@ const FROM: usize = FROM_0 as usize;
 const MOST: usize = 15;
 
 // 5B: how many parameters.
+#[tactic(auto, using(crate::proofs::Rows::counting))]
 pub fn check_count(entry: u8, n: usize) -> Counted
     ensures { result ≡ counted_in (span_in entry) n }
 {
@@ -81,16 +83,11 @@ pub fn setting_of(number: u8) -> Setting
     ensures { Touched number result }
 {
     match number {
-        0xE2 => Setting::Power,
-        0xE3 => Setting::Power,
-        0xE4 => Setting::Step,
-        0xE5 => Setting::Step,
-        0xE6 => Setting::Mode,
-        0xE7 => Setting::Mode,
-        0xED => Setting::OnOff,
-        0xEE => Setting::OnOff,
-        0xF3 => Setting::Interval,
-        0xF2 => Setting::Interval,
+        0xE2 | 0xE3 => Setting::Power,
+        0xE4 | 0xE5 => Setting::Step,
+        0xE6 | 0xE7 => Setting::Mode,
+        0xED | 0xEE => Setting::OnOff,
+        0xF2 | 0xF3 => Setting::Interval,
         // 51, 52
         _ => Setting::Filter,
     }
