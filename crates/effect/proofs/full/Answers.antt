@@ -1,5 +1,5 @@
 -- `full`: each number of a command with parameters leaves what its row says; what is left sets a setting.
-use Rattle.std.proofs.Common.{refl, length, [], arith, rules}
+use Rattle.std.proofs.Common.{refl, length, [], rules}
 use Rattle.record.specs.Layout.{FlagByte, ModelPart, at_flags, at_model}
 use Rattle.record.proofs.InPlaceLaws.{sound-at}
 use Rattle.command.specs.declared.Command.TheVariants.{Set, SetName, SetInput, ReadInput, SwitchOutput, Unlock, SetModel, ReadPair}

@@ -1,5 +1,5 @@
 -- `code_access`: the code is compared only with configuration mode closed and a try left.
-use Rattle.std.proofs.Common.{◌∙◌, sym, arith, rules}
+use Rattle.std.proofs.Common.{◌∙◌, sym, arith}
 use Rattle.record.proofs.InPlaceLaws.{sound-long}
 use Rattle.judge.proofs.Checks.{flag-sound, code-open, code-used, code-right, code-wrong}
 use Rattle.judge.proofs.code_access.Goals.{then-opened-via-then-opened, then-opened-via-else-opened+then-rec-ge3}
