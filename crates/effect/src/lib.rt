@@ -8,11 +8,12 @@ ghost use Rattle.effect.specs.Carried.{Calls, Carried};
 
 use command::Refusal;
 use data::{put_lock, put_model, put_name, put_two};
-use flags::{close_mode, open_mode, start_sending, stop_sending, unlock};
+use flags::{lower, raise};
 use parts::{clear_name, set_model};
 use ranged::{
     read_input, read_pair, read_setting, write_input, write_name, write_output, write_setting,
 };
+use record::Flag;
 use record::places::{AT_FLAGS, AT_MODEL};
 
 // A rule of the project: in code a command is the arm of its number, so no enum of the commands is made first.
@@ -27,11 +28,11 @@ fn bare(rec: &mut [u8], number: u8, out: &mut [u8], at: usize) -> Result<usize, 
 {
     match number {
         0xE0 => {
-            open_mode(rec);
+            raise(rec, Flag::Opened);
             Ok(put_two(out, at + 3, 0x00, 0x14))
         }
         0xE1 => {
-            close_mode(rec);
+            lower(rec, Flag::Opened);
             Ok(0)
         }
         0xE8 => Ok(put_name(out, at + 3, rec)),
@@ -42,11 +43,11 @@ fn bare(rec: &mut [u8], number: u8, out: &mut [u8], at: usize) -> Result<usize, 
         0x1A => Ok(put_lock(out, at + 3, rec[AT_FLAGS])),
         0x1B => Ok(put_model(out, at + 3, rec, AT_MODEL)),
         0x23 => {
-            stop_sending(rec);
+            lower(rec, Flag::Sending);
             Ok(0)
         }
         0x24 => {
-            start_sending(rec);
+            raise(rec, Flag::Sending);
             Ok(0)
         }
         _ => read_setting(rec, number, out, at),
@@ -67,7 +68,7 @@ fn full(rec: &mut [u8], number: u8, p: &[u8], out: &mut [u8], at: usize) -> Resu
         0xF0 => read_input(rec, p, out, at),
         0xF1 => write_output(rec, p),
         0x19 => {
-            unlock(rec);
+            raise(rec, Flag::Unlocked);
             Ok(0)
         }
         0x1C => {

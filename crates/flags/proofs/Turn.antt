@@ -1,13 +1,12 @@
 -- A store in the bytes of a record is the change of its field, in the words of the code that stores.
 use Prim.Native.Nat.{ℕ, ◌+◌, ◌-◌, ◌<◌}
 use mathlib.Core.Path.{sym, ap, ap₂, ◌∙◌}
-use mathlib.Core.Bool.{Bool, true, false, cond}
+use mathlib.Core.Bool.{Bool, cond}
 use mathlib.Core.List.{List}
 use lib.ListN.{length, get_or, set}
 use lib.Bits.{bit_and, bit_or}
 use Rattle.record.specs.declared.Flag.{Flag}
-use Rattle.record.specs.declared.Flag.TheVariants.{Opened, Unlocked, Sending}
-use Rattle.record.specs.Record.{flag_of, with_flag, with_opened, with_unlocked, with_sending, with_flags, with_tries}
+use Rattle.record.specs.Record.{flag_of, with_flag, with_flags, with_tries}
 use Rattle.record.specs.Layout.{FlagByte, TriesByte, place, bytes_in, at_flags, at_tries, worth, bit_of}
 use Rattle.record.specs.InPlace.{SoundAt, TurnsAt, ShowsAt}
 use Rattle.record.proofs.Stores.{get-flag_in, set-flag_in, get-tries_in, set-tries_in}
@@ -28,21 +27,6 @@ module _ (s : List ℕ) where
   turn-flag k v =
       turns_at FlagByte at_flags s (λ at b. set b at (cond v (bit_or (get_or b at 0) (worth k)) (bit_and (get_or b at 0) (255 - worth k)))) (λ r. with_flags r (with_flag r.flags k v))
       (λ p laid r i e. set-flag_in p laid r k v)
-
-  pub turn-open : TurnsAt FlagByte at_flags s (set s at_flags (bit_or (get_or s at_flags 0) 1)) (λ r. with_flags r (with_opened r.flags true))
-  turn-open = turn-flag Opened true
-
-  pub turn-close : TurnsAt FlagByte at_flags s (set s at_flags (bit_and (get_or s at_flags 0) 254)) (λ r. with_flags r (with_opened r.flags false))
-  turn-close = turn-flag Opened false
-
-  pub turn-unlock : TurnsAt FlagByte at_flags s (set s at_flags (bit_or (get_or s at_flags 0) 2)) (λ r. with_flags r (with_unlocked r.flags true))
-  turn-unlock = turn-flag Unlocked true
-
-  pub turn-stop : TurnsAt FlagByte at_flags s (set s at_flags (bit_and (get_or s at_flags 0) 251)) (λ r. with_flags r (with_sending r.flags false))
-  turn-stop = turn-flag Sending false
-
-  pub turn-start : TurnsAt FlagByte at_flags s (set s at_flags (bit_or (get_or s at_flags 0) 4)) (λ r. with_flags r (with_sending r.flags true))
-  turn-start = turn-flag Sending true
 
   pub turn-tries : TurnsAt TriesByte at_tries s (set s at_tries (get_or s at_tries 0 + 1)) (λ r. with_tries r (r.tries + 1))
   turn-tries =

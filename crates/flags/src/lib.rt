@@ -2,12 +2,12 @@
 #![tactic(auto, using(crate::proofs::Turn::flags_there, crate::proofs::Turn::tries_there))]
 
 ghost use Rattle.std.specs.Prelude.{◌≡◌, true, false, ◌+◌, ◌<◌, get_or};
-ghost use Rattle.record.specs.Record.{flag_of, with_flag, with_opened, with_unlocked, with_sending, with_flags, with_tries};
+ghost use Rattle.record.specs.Record.{flag_of, with_flag, with_flags, with_tries};
 ghost use Rattle.record.specs.Layout.{FlagByte, TriesByte, at_flags, at_tries, worth, bit_of};
 ghost use Rattle.record.specs.InPlace.{SoundAt, TurnsAt, ShowsAt};
 
 use record::Flag;
-use record::places::{AT_FLAGS, AT_TRIES, OPENED, SENDING, UNLOCKED};
+use record::places::{AT_FLAGS, AT_TRIES};
 
 // The bit of a flag.
 fn mask_of(flag: Flag) -> u8
@@ -42,41 +42,6 @@ pub fn lower(rec: &mut [u8], flag: Flag)
     ensures { TurnsAt FlagByte at_flags rec.old rec.new (λ r. with_flags r (with_flag r.flags flag false)) }
 {
     rec[AT_FLAGS] &= !mask_of(flag);
-}
-
-pub fn open_mode(rec: &mut [u8])
-    requires { SoundAt FlagByte at_flags rec.old }
-    ensures { TurnsAt FlagByte at_flags rec.old rec.new (λ r. with_flags r (with_opened r.flags true)) }
-{
-    rec[AT_FLAGS] |= OPENED;
-}
-
-pub fn close_mode(rec: &mut [u8])
-    requires { SoundAt FlagByte at_flags rec.old }
-    ensures { TurnsAt FlagByte at_flags rec.old rec.new (λ r. with_flags r (with_opened r.flags false)) }
-{
-    rec[AT_FLAGS] &= !OPENED;
-}
-
-pub fn unlock(rec: &mut [u8])
-    requires { SoundAt FlagByte at_flags rec.old }
-    ensures { TurnsAt FlagByte at_flags rec.old rec.new (λ r. with_flags r (with_unlocked r.flags true)) }
-{
-    rec[AT_FLAGS] |= UNLOCKED;
-}
-
-pub fn stop_sending(rec: &mut [u8])
-    requires { SoundAt FlagByte at_flags rec.old }
-    ensures { TurnsAt FlagByte at_flags rec.old rec.new (λ r. with_flags r (with_sending r.flags false)) }
-{
-    rec[AT_FLAGS] &= !SENDING;
-}
-
-pub fn start_sending(rec: &mut [u8])
-    requires { SoundAt FlagByte at_flags rec.old }
-    ensures { TurnsAt FlagByte at_flags rec.old rec.new (λ r. with_flags r (with_sending r.flags true)) }
-{
-    rec[AT_FLAGS] |= SENDING;
 }
 
 pub fn count_try(rec: &mut [u8])

@@ -10,13 +10,10 @@ use lib.ListN.{length, get_or}
 use lib.Dec.{eqb}
 use Rattle.wire.specs.Numbers.{word_at}
 use Rattle.record.specs.Record.{Record}
-use Rattle.record.specs.Layout.{FlagByte, Plan, place, at_flags, at_tries, at_code, flags_byte, bytes_in, bytes_of, bit_of}
-use Rattle.record.specs.Laid.{Laid}
+use Rattle.record.specs.Layout.{FlagByte, at_flags, at_tries, at_code, bytes_of}
 use Rattle.record.specs.Form.{InRange}
 use Rattle.record.specs.InPlace.{Sound, Shows, SoundAt, ShowsAt}
-use Rattle.record.proofs.Choices.{bits_back}
 use Rattle.record.proofs.Lens.{get-tries, get-code}
-use Rattle.record.proofs.Stores.{get-flags_in}
 use Rattle.record.proofs.InPlaceLaws.{sound-at, here-shows}
 use Rattle.command.specs.declared.Command.{Command}
 use Rattle.command.specs.declared.Command.TheVariants.{Open, Close, Read, Set, ReadName, SetName, SetInput, ReadInput, SwitchOutput, Unlock, ReadLock, ReadModel, SetModel, StopSending, StartSending, ReadPair}
@@ -70,24 +67,7 @@ asked c n h = le_trans (asked-least c) (counted-span c n h).0
 
 -- ---- access
 
--- the flags in any layout that has them at their place
-module _ (s : List ℕ) (p : Plan) (laid : Laid p) (at-is : place p FlagByte ≡ at_flags) (r : Record) (e : s ≡ bytes_in p r) where
-  flags-at : get_or s at_flags 0 ≡ flags_byte r.flags
-  flags-at = ap₂ (λ (l : List ℕ) (k : ℕ). get_or l k 0) e (sym at-is) ∙ get-flags_in p laid r
-
-  opened-bit : bit_of (get_or s at_flags 0) 1 ≡ r.flags.opened
-  opened-bit = rw flags-at (bits_back r.flags.opened r.flags.unlocked r.flags.sending r.flags.reading).0
-
-  unlocked-bit : bit_of (get_or s at_flags 0) 2 ≡ r.flags.unlocked
-  unlocked-bit = rw flags-at (bits_back r.flags.opened r.flags.unlocked r.flags.sending r.flags.reading).1
-
-pub opened-is : (s : List ℕ) → ShowsAt FlagByte at_flags s (eqb (get_or s at_flags 0 % 2) 1) (λ r. r.flags.opened)
-opened-is s p w r i e = let z : get_or s at_flags 0 % 2 ≡ get_or s at_flags 0 / 1 % 2 = omega arith in rw z (opened-bit s p w.laid w.stands r e)
-
-pub unlocked-is : (s : List ℕ) → ShowsAt FlagByte at_flags s (eqb (get_or s at_flags 0 / 2 % 2) 1) (λ r. r.flags.unlocked)
-unlocked-is s p w r i e = unlocked-bit s p w.laid w.stands r e
-
--- and in the current one
+-- a flag read in any layout, in the current one
 pub flag-sound : (s : List ℕ) → Sound s → SoundAt FlagByte at_flags s
 flag-sound s = sound-at FlagByte at_flags refl refl s
 

@@ -2,32 +2,19 @@
 #![tactic(auto)]
 
 ghost use Rattle.std.specs.Prelude.{◌≡◌, true, [], ◌≤◌, length};
-ghost use Rattle.record.specs.Layout.{FlagByte, at_flags};
-ghost use Rattle.record.specs.InPlace.{Sound, Shows, SoundAt, ShowsAt};
+ghost use Rattle.record.specs.InPlace.{Sound, Shows};
 ghost use Rattle.command.specs.declared.Need.TheVariants.{Unlocked, Code};
 ghost use Rattle.command.specs.Entries.{need_in, is_built, is_tidy, unpacked};
 ghost use Rattle.command.specs.Judge.{access_of};
 ghost use Rattle.judge.specs.Checks.{asks, Known, judged_by};
 
 use command::{Access, Counted, Numbered, Refusal};
+use flags::has_flag;
 use numbers::word_at;
-use record::places::{AT_CODE, AT_FLAGS, AT_TRIES};
+use record::Flag;
+use record::places::{AT_CODE, AT_TRIES};
 use table::entries::{CLOSED, CODE, LOCK, OPENED};
 use table::{check_count, check_number};
-
-fn is_open(rec: &[u8]) -> bool
-    requires { SoundAt FlagByte at_flags rec.now }
-    ensures { ShowsAt FlagByte at_flags rec.now result (λ b. b.flags.opened) }
-{
-    rec[AT_FLAGS] % 2 == 1
-}
-
-fn is_unlocked(rec: &[u8]) -> bool
-    requires { SoundAt FlagByte at_flags rec.now }
-    ensures { ShowsAt FlagByte at_flags rec.now result (λ b. b.flags.unlocked) }
-{
-    rec[AT_FLAGS] / 2 % 2 == 1
-}
 
 // The code is compared only with configuration mode closed and a try left.
 fn code_access(rec: &[u8], p: &[u8]) -> Access
@@ -35,10 +22,8 @@ fn code_access(rec: &[u8], p: &[u8]) -> Access
     requires in_bounds { 4 ≤ length p.now }
     ensures { Shows rec.now result (λ b. access_of Code b p.now) }
 {
-    if is_open(rec) {
-        return Access::Missing;
-    }
-    if 3 <= rec[AT_TRIES] {
+    let opened = has_flag(rec, Flag::Opened);
+    if opened || 3 <= rec[AT_TRIES] {
         return Access::Missing;
     }
     if word_at(p, 0) == word_at(rec, AT_CODE) {
@@ -52,10 +37,10 @@ fn lock_access(rec: &[u8]) -> Access
     requires { Sound rec.now }
     ensures { Shows rec.now result (λ b. access_of Unlocked b []) }
 {
-    if is_open(rec) {
+    if has_flag(rec, Flag::Opened) {
         return Access::Missing;
     }
-    if is_unlocked(rec) {
+    if has_flag(rec, Flag::Unlocked) {
         return Access::Given;
     }
     Access::Missing
@@ -67,7 +52,7 @@ fn check_access(entry: u8, rec: &[u8], p: &[u8]) -> Access
     requires value { (is_built entry ≡ true) × (is_tidy entry ≡ true) × (asks (need_in entry) ≤ length p.now) }
     ensures { Shows rec.now result (λ b. access_of (need_in entry) b p.now) }
 {
-    if is_open(rec) {
+    if has_flag(rec, Flag::Opened) {
         if entry / OPENED % 2 == 1 {
             return Access::Given;
         }

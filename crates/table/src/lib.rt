@@ -93,6 +93,7 @@ pub fn setting_of(number: u8) -> Setting
     }
 }
 
+// No `From`: that could stand only beside `Refusal`, away from the edits of this crate, and at the call it would not say that the byte is a status.
 pub fn status_of(why: Refusal) -> u8
     ensures { result ≡ status_of why }
 {

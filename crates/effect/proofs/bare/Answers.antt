@@ -9,11 +9,11 @@ use Rattle.effect.proofs.Arms.{carried, told, left-reads}
 use Rattle.effect.proofs.Rows.{sound-name, changes}
 use Rattle.effect.proofs.bare.Goals as goal
 
-pub open_mode-requires : goal.open_mode-requires
-open_mode-requires c = sound-at FlagByte at_flags refl refl _ c.requires.sound
+pub raise-requires : goal.raise-requires
+raise-requires c = sound-at FlagByte at_flags refl refl _ c.requires.sound
 
-pub close_mode-requires : goal.close_mode-requires
-close_mode-requires c = sound-at FlagByte at_flags refl refl _ c.requires.sound
+pub lower-requires : goal.lower-requires
+lower-requires c = sound-at FlagByte at_flags refl refl _ c.requires.sound
 
 pub put_name-requires-clause-name_room_in_bounds : goal.put_name-requires-clause-name_room_in_bounds
 put_name-requires-clause-name_room_in_bounds c = (omega (arith, sound-long c.args.rec.now c.requires.sound), omega (arith, c.requires.frame_most_in_bounds))
@@ -30,11 +30,11 @@ bounds-rec-3 c = omega (arith, sound-long c.args.rec.now c.requires.sound)
 pub put_model-requires : goal.put_model-requires
 put_model-requires c = (omega (arith, sound-long c.args.rec.now c.requires.sound), omega (arith, c.requires.frame_most_in_bounds))
 
-pub stop_sending-requires : goal.stop_sending-requires
-stop_sending-requires c = sound-at FlagByte at_flags refl refl _ c.requires.sound
+pub lower-requires-in-35 : goal.lower-requires-in-35
+lower-requires-in-35 c = sound-at FlagByte at_flags refl refl _ c.requires.sound
 
-pub start_sending-requires : goal.start_sending-requires
-start_sending-requires c = sound-at FlagByte at_flags refl refl _ c.requires.sound
+pub raise-requires-in-36 : goal.raise-requires-in-36
+raise-requires-in-36 c = sound-at FlagByte at_flags refl refl _ c.requires.sound
 
 pub read_setting-requires-clause-read : goal.read_setting-requires-clause-read
 read_setting-requires-clause-read c =
@@ -43,11 +43,11 @@ read_setting-requires-clause-read c =
 
 pub returns-in-224 : goal.returns-in-224
 unfolding named_by range_of effect_of data_of
-returns-in-224 c = carried c.args.number Open (rw c.in-224.is refl) _ [] _ _ (Ok _) _ _ (refl, here FlagByte at_flags refl refl _ _ (λ r. effect_of Open r []) c.open_mode.ensures, c.put_two.ensures)
+returns-in-224 c = carried c.args.number Open (rw c.in-224.is refl) _ [] _ _ (Ok _) _ _ (refl, here FlagByte at_flags refl refl _ _ (λ r. effect_of Open r []) search, search)
 
 pub returns-in-225 : goal.returns-in-225
 unfolding named_by range_of effect_of data_of
-returns-in-225 c = changes c.args.number Close (rw c.in-225.is refl) FlagByte refl _ [] _ _ _ refl refl c.close_mode.ensures
+returns-in-225 c = changes c.args.number Close (rw c.in-225.is refl) FlagByte refl _ [] _ _ _ refl refl search
 
 pub returns-in-232 : goal.returns-in-232
 unfolding named_by range_of effect_of data_of record_of
@@ -55,7 +55,7 @@ returns-in-232 c = told c.args.number ReadName (rw c.in-232.is refl) _ [] _ _ (�
 
 pub returns-in-233 : goal.returns-in-233
 unfolding named_by range_of effect_of data_of
-returns-in-233 c = changes c.args.number SetName (rw c.in-233.is refl) NamePart refl _ [] _ _ _ refl refl c.clear_name.ensures
+returns-in-233 c = changes c.args.number SetName (rw c.in-233.is refl) NamePart refl _ [] _ _ _ refl refl search
 
 pub returns-in-26 : goal.returns-in-26
 unfolding named_by range_of effect_of data_of record_of
@@ -67,11 +67,11 @@ returns-in-27 c = told c.args.number ReadModel (rw c.in-27.is refl) _ [] _ _ (λ
 
 pub returns-in-35 : goal.returns-in-35
 unfolding named_by range_of effect_of data_of
-returns-in-35 c = changes c.args.number StopSending (rw c.in-35.is refl) FlagByte refl _ [] _ _ _ refl refl c.stop_sending.ensures
+returns-in-35 c = changes c.args.number StopSending (rw c.in-35.is refl) FlagByte refl _ [] _ _ _ refl refl search
 
 pub returns-in-36 : goal.returns-in-36
 unfolding named_by range_of effect_of data_of
-returns-in-36 c = changes c.args.number StartSending (rw c.in-36.is refl) FlagByte refl _ [] _ _ _ refl refl c.start_sending.ensures
+returns-in-36 c = changes c.args.number StartSending (rw c.in-36.is refl) FlagByte refl _ [] _ _ _ refl refl search
 
 pub returns-in_default : goal.returns-in_default
 unfolding effect_of

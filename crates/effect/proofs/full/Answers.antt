@@ -1,5 +1,5 @@
 -- `full`: each number of a command with parameters leaves what its row says; what is left sets a setting.
-use Rattle.std.proofs.Common.{refl, length, [], arith, rules}
+use Rattle.std.proofs.Common.{refl, length, [], rules}
 use Rattle.record.specs.Layout.{FlagByte, ModelPart, at_flags, at_model}
 use Rattle.record.proofs.InPlaceLaws.{sound-at}
 use Rattle.command.specs.declared.Command.TheVariants.{Set, SetName, SetInput, ReadInput, SwitchOutput, Unlock, SetModel, ReadPair}
@@ -26,8 +26,8 @@ pub write_output-requires-clause-p_value : goal.write_output-requires-clause-p_v
 unfolding named_by
 write_output-requires-clause-p_value c = counted c.args.number SwitchOutput (rw c.in-241.is refl) _ c.requires.in_bounds.1
 
-pub unlock-requires : goal.unlock-requires
-unlock-requires c = sound-at FlagByte at_flags refl refl _ c.requires.sound
+pub raise-requires : goal.raise-requires
+raise-requires c = sound-at FlagByte at_flags refl refl _ c.requires.sound
 
 pub set_model-requires-clause-sound_at : goal.set_model-requires-clause-sound_at
 set_model-requires-clause-sound_at c = sound-at ModelPart at_model refl refl _ c.requires.sound
@@ -63,11 +63,11 @@ returns-in-241 c = stored c.args.number SwitchOutput (rw c.in-241.is refl) _ c.a
 
 pub returns-in-25 : goal.returns-in-25
 unfolding named_by range_of effect_of data_of
-returns-in-25 c = changes c.args.number Unlock (rw c.in-25.is refl) FlagByte refl _ c.args.p.now _ _ _ refl refl c.unlock.ensures
+returns-in-25 c = changes c.args.number Unlock (rw c.in-25.is refl) FlagByte refl _ c.args.p.now _ _ _ refl refl search
 
 pub returns-in-28 : goal.returns-in-28
 unfolding named_by range_of effect_of data_of
-returns-in-28 c = changes c.args.number SetModel (rw c.in-28.is refl) ModelPart refl _ c.args.p.now _ _ _ refl refl c.set_model.ensures
+returns-in-28 c = changes c.args.number SetModel (rw c.in-28.is refl) ModelPart refl _ c.args.p.now _ _ _ refl refl search
 
 pub returns-in-83 : goal.returns-in-83
 unfolding named_by effect_of

@@ -1,5 +1,5 @@
 -- `write_name`: in range it is stored, out of range nothing is.
-use Rattle.std.proofs.Common.{◌∙◌, sym, refl, length, arith}
+use Rattle.std.proofs.Common.{◌∙◌, sym, refl, length}
 use Rattle.record.specs.Layout.{NamePart, at_name_length}
 use Rattle.record.proofs.InPlaceLaws.{sound-at}
 use Rattle.command.specs.declared.Command.TheVariants.{SetName}

@@ -1,5 +1,5 @@
 -- `write_setting`: in range the setting that the number sets is stored, out of range nothing is.
-use Rattle.std.proofs.Common.{◌∙◌, sym, refl, arith}
+use Rattle.std.proofs.Common.{◌∙◌, sym, refl}
 use Rattle.record.specs.Settings.{sheet_of}
 use Rattle.record.proofs.InPlaceLaws.{sound-at}
 use Rattle.record.proofs.SettingLaws.{setting-there, setting-stands}
