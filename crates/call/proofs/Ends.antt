@@ -11,7 +11,7 @@ use Rattle.wire.specs.Numbers.{Bytes}
 use Rattle.wire.proofs.PutLaws.{put-nil}
 use Rattle.peak.proofs.PairLaws.{both}
 use Rattle.record.specs.Layout.{current, record_size, bytes_of, record_of}
-use Rattle.record.specs.Form.{fields_in, all_fine, well_formed, fault_of, form_by, form_of}
+use Rattle.record.specs.Form.{fields_in, all_fine, well_formed, form_by, form_of}
 use Rattle.record.specs.Births.{factory, powered_on}
 use Rattle.record.specs.InPlace.{Sound, Turns}
 use Rattle.record.specs.declared.Form.TheVariants.{Good}
