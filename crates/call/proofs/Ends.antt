@@ -19,8 +19,9 @@ use Rattle.record.proofs.RoundTrip.{in-range, write-back}
 use Rattle.call.specs.declared.CallRefusal.{CallRefusal}
 use Rattle.call.specs.declared.CallRefusal.TheVariants.{BadRecord}
 use Rattle.call.specs.Outcome.{no_counts, counts, Leaves}
+use Rattle.call.specs.Ended.{BadForm}
 use Rattle.call.proofs.InOrder.{left}
-use Rattle.call.specs.Calls.{BadForm, factory_call, power_on_call}
+use Rattle.call.specs.Calls.{factory_call, power_on_call}
 use Rattle.call.proofs.Unfolded.{factory-by, power-on-by}
 
 -- ---- what the check's answer says of the bytes

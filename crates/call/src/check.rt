@@ -3,7 +3,7 @@ ghost use Rattle.std.specs.Prelude.{◌≡◌, MatchResult, OnOk};
 ghost use Rattle.record.specs.Form.{form_of};
 ghost use Rattle.record.specs.InPlace.{Sound};
 ghost use Rattle.record.specs.declared.Form.TheVariants.{Good};
-ghost use Rattle.call.specs.Calls.{BadForm};
+ghost use Rattle.call.specs.Ended.{BadForm};
 
 use super::CallRefusal;
 use fault::fault_of;
