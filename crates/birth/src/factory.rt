@@ -1,6 +1,7 @@
 // Factory: a new record over any bytes.
 ghost use Rattle.std.specs.Prelude.{[]};
-ghost use Rattle.call.specs.Outcome.{Leaves, answer_of};
+ghost use Rattle.call.specs.Outcome.{Leaves};
+ghost use Rattle.call.specs.Ended.{answer_of};
 ghost use Rattle.call.specs.Calls.{factory_call};
 
 use call::{Answer, CallRefusal, Done};

@@ -1,6 +1,7 @@
 // Power-on: the record as it is after a power cycle.
 ghost use Rattle.std.specs.Prelude.{[]};
-ghost use Rattle.call.specs.Outcome.{Leaves, answer_of};
+ghost use Rattle.call.specs.Outcome.{Leaves};
+ghost use Rattle.call.specs.Ended.{answer_of};
 ghost use Rattle.call.specs.Calls.{power_on_call};
 
 use call::check::checked;

@@ -11,7 +11,7 @@ use Rattle.wire.specs.Numbers.{Bytes}
 use Rattle.wire.proofs.PutLaws.{put-nil}
 use Rattle.peak.proofs.PairLaws.{both}
 use Rattle.record.specs.Layout.{current, record_size, bytes_of, record_of}
-use Rattle.record.specs.Form.{fields_in, all_fine, well_formed, fault_of, form_by, form_of}
+use Rattle.record.specs.Form.{fields_in, all_fine, well_formed, form_by, form_of}
 use Rattle.record.specs.Births.{factory, powered_on}
 use Rattle.record.specs.InPlace.{Sound, Turns}
 use Rattle.record.specs.declared.Form.TheVariants.{Good}
@@ -19,8 +19,9 @@ use Rattle.record.proofs.RoundTrip.{in-range, write-back}
 use Rattle.call.specs.declared.CallRefusal.{CallRefusal}
 use Rattle.call.specs.declared.CallRefusal.TheVariants.{BadRecord}
 use Rattle.call.specs.Outcome.{no_counts, counts, Leaves}
+use Rattle.call.specs.Ended.{BadForm}
 use Rattle.call.proofs.InOrder.{left}
-use Rattle.call.specs.Calls.{BadForm, factory_call, power_on_call}
+use Rattle.call.specs.Calls.{factory_call, power_on_call}
 use Rattle.call.proofs.Unfolded.{factory-by, power-on-by}
 
 -- ---- what the check's answer says of the bytes

@@ -15,8 +15,9 @@ use Rattle.record.specs.declared.Form.TheVariants.{Good}
 use Rattle.call.specs.declared.CallRefusal.{CallRefusal}
 use Rattle.call.specs.declared.CallRefusal.TheVariants.{BadLength, NoRoom, NotFinite}
 use Rattle.call.specs.Outcome.{no_counts, counts, Leaves}
+use Rattle.call.specs.Ended.{BadForm}
 use Rattle.call.proofs.InOrder.{left}
-use Rattle.call.specs.Calls.{BadForm, sample_size, measuring_size, measuring_frame, samples_call}
+use Rattle.call.specs.Calls.{sample_size, measuring_size, measuring_frame, samples_call}
 use Rattle.call.proofs.Unfolded.{samples-by}
 
 module _ (s sample o : List ℕ) where

@@ -1,5 +1,5 @@
 -- The four calls: from what a call is given to its outcome, refusals included.
-use Rattle.std.specs.Prelude.{ℕ, ◌≡◌, ◌+◌, ◌*◌, not, cond, List, [], ◌∷◌, ◌++◌, length, ltb, eqb}
+use Rattle.std.specs.Prelude.{ℕ, ◌+◌, ◌*◌, not, cond, List, [], ◌∷◌, ◌++◌, length, ltb, eqb}
 use Rattle.wire.specs.Sizes.{input_most}
 use Rattle.wire.specs.Numbers.{bytes_at, put}
 use Rattle.wire.specs.Replies.{Reply, replies_bytes}
@@ -11,8 +11,6 @@ use Rattle.record.specs.Form.{well_formed, fault_of, form_of}
 use Rattle.record.specs.Births.{factory, powered_on}
 use Rattle.record.specs.Reading.{reading_of}
 use Rattle.command.specs.Hunt.{hunt_of, record_after, room_for}
-use Rattle.record.specs.declared.Form.TheVariants.{Bad}
-use Rattle.call.specs.declared.CallRefusal.{CallRefusal}
 use Rattle.call.specs.declared.CallRefusal.TheVariants.{BadRecord, BadLength, NoRoom, NotFinite}
 use Rattle.call.specs.Outcome.{Outcome, done, Cause, cause, bad, in_order}
 
@@ -30,10 +28,6 @@ factory_call s = in_order (factory_causes s) s [] (done factory [] 0 [])
 -- "1: record not 123 bytes or not well formed"; "Result 1 shall also return the place of the first byte of the first faulty field"; "All calls that take a record pass it on."
 abbrev pub bad_record : List ℕ → Cause
 bad_record s = cause (bad (form_of s)) (BadRecord (fault_of s))
-
--- so is a call refused that checks a record
-abbrev pub BadForm : List ℕ → CallRefusal → Type 0
-BadForm s why = (form_of s ≡ Bad) × (why ≡ BadRecord (fault_of s))
 
 abbrev pub power_on_causes : List ℕ → List Cause
 power_on_causes s = bad_record s ∷ []

@@ -1,5 +1,5 @@
 -- What a call over a record leaves: its answer, the record, the output buffer. Every such call is a total function to such an outcome.
-use Rattle.std.specs.Prelude.{ℕ, ◌≡◌, Bool, true, false, cond, List, [], ◌∷◌, length, Result, Ok, Err}
+use Rattle.std.specs.Prelude.{ℕ, ◌≡◌, Bool, true, false, cond, List, [], ◌∷◌, length}
 use Rattle.wire.specs.Numbers.{put}
 use Rattle.record.specs.Record.{Record}
 use Rattle.record.specs.Layout.{bytes_of}
@@ -7,7 +7,6 @@ use Rattle.record.specs.declared.Form.{Form}
 use Rattle.record.specs.declared.Form.TheVariants.{Good, Bad}
 use Rattle.call.specs.declared.CallRefusal.{CallRefusal}
 use Rattle.call.specs.declared.CallRefusal.TheVariants.{BadRecord, BadLength, NoRoom, NotFinite}
-use Rattle.call.specs.declared.Done.{Done}
 use Rattle.call.specs.declared.Answer.{Answer}
 
 -- the column "no." of the table of call results, for a refusal; 0 is "done"
@@ -47,11 +46,6 @@ counts written skipped = record { result = 0; written = written; skipped = skipp
 -- "output behind the written bytes is unchanged"
 abbrev pub done : Record → List ℕ → ℕ → List ℕ → Outcome
 done r out skipped o = record { answer = counts (length out) skipped; kept = bytes_of r; output = put o 0 out }
-
--- the answer to C: the counts of a call that is done, or what refuses it
-abbrev pub answer_of : Result Done CallRefusal → Answer
-answer_of (Ok d) = counts d.written d.skipped
-answer_of (Err why) = no_counts why
 
 -- ---- the causes of a refusal
 

@@ -1,12 +1,11 @@
 -- The reader: from a capture and a list to its outcome, refusals included. It has no record.
-use Rattle.std.specs.Prelude.{ℕ, ◌/◌, ◌≡◌, List, [], ◌∷◌, length, ltb, Result, Ok, Err}
+use Rattle.std.specs.Prelude.{ℕ, ◌/◌, ◌≡◌, List, [], ◌∷◌, length, ltb}
 use Rattle.wire.specs.Sizes.{capture_most}
 use Rattle.wire.specs.Numbers.{put}
 use Rattle.wire.specs.Frames.{cut_from, cut, placed_from, placed}
 use Rattle.wire.specs.Reader.{Entry, reader, entries_of, list_of}
 use Rattle.call.specs.declared.CallRefusal.{CallRefusal}
 use Rattle.call.specs.declared.CallRefusal.TheVariants.{BadLength, NoRoom}
-use Rattle.call.specs.declared.ReadDone.{ReadDone}
 use Rattle.call.specs.declared.ReadAnswer.{ReadAnswer}
 use Rattle.call.specs.Outcome.{result_of, Cause, cause, first_of}
 
@@ -32,11 +31,6 @@ read_causes capture list =
 -- "0 done" with its counts
 abbrev pub read_counts : ℕ → ℕ → ℕ → ReadAnswer
 read_counts entries skipped unread = record { result = 0; entries = entries; skipped = skipped; unread = unread }
-
--- the answer to C: the counts of a reading that is done, or what refuses it
-abbrev pub read_answer_of : Result ReadDone CallRefusal → ReadAnswer
-read_answer_of (Ok d) = read_counts d.entries d.skipped d.unread
-read_answer_of (Err why) = no_entries why
 
 -- the entries of a capture, in its order
 abbrev pub read_entries : List ℕ → List Entry

@@ -4,8 +4,8 @@
 pub mod check;
 
 ghost use Rattle.std.specs.Prelude.{◌≡◌};
-ghost use Rattle.call.specs.Outcome.{result_of, faulty_place, answer_of};
-ghost use Rattle.call.specs.Read.{read_answer_of};
+ghost use Rattle.call.specs.Outcome.{result_of, faulty_place};
+ghost use Rattle.call.specs.Ended.{answer_of, read_answer_of};
 
 // Why a call is refused. A bad record has the place of its first faulty field.
 #[derive(Clone, Copy)]

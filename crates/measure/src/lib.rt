@@ -4,7 +4,8 @@
 ghost use Rattle.std.specs.Prelude.{◌≡◌, ◌≤◌, length};
 ghost use Rattle.wire.specs.Numbers.{put};
 ghost use Rattle.record.specs.Layout.{channels};
-ghost use Rattle.call.specs.Outcome.{Leaves, answer_of};
+ghost use Rattle.call.specs.Outcome.{Leaves};
+ghost use Rattle.call.specs.Ended.{answer_of};
 ghost use Rattle.call.specs.Calls.{sample_size, measuring_size, measuring_frame, samples_call};
 
 use buffer::write::put_in;

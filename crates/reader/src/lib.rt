@@ -7,7 +7,8 @@ ghost use Rattle.std.specs.Prelude.{◌≡◌, ◌+◌, ◌*◌, ◌/◌, ◌≤
 ghost use Rattle.wire.specs.Sizes.{capture_most};
 ghost use Rattle.wire.specs.Numbers.{put};
 ghost use Rattle.wire.specs.Reader.{status_told, entry_of, entry_numbers};
-ghost use Rattle.call.specs.Read.{read_answer_of, read_call, ReadLeaves};
+ghost use Rattle.call.specs.Read.{read_call, ReadLeaves};
+ghost use Rattle.call.specs.Ended.{read_answer_of};
 ghost use Rattle.reader.specs.Progress.{ReadsAll};
 
 use call::{CallRefusal, ReadAnswer, ReadDone};

@@ -21,7 +21,8 @@ use Rattle.command.specs.Hunt.{hunt_of, room_for}
 use Rattle.hunt.specs.Progress.{Serves}
 use Rattle.call.specs.Outcome.{no_counts, counts, Leaves}
 use Rattle.call.proofs.InOrder.{left}
-use Rattle.call.specs.Calls.{BadForm, bytes_call}
+use Rattle.call.specs.Calls.{bytes_call}
+use Rattle.call.specs.Ended.{BadForm}
 use Rattle.hunt.specs.declared.Counts.{Counts}
 use Rattle.call.specs.declared.CallRefusal.{CallRefusal}
 use Rattle.call.specs.declared.CallRefusal.TheVariants.{BadLength, NoRoom}

@@ -1,7 +1,8 @@
 // Bytes: received bytes in, replies out.
 #![tactic(auto)]
 
-ghost use Rattle.call.specs.Outcome.{Leaves, answer_of};
+ghost use Rattle.call.specs.Outcome.{Leaves};
+ghost use Rattle.call.specs.Ended.{answer_of};
 ghost use Rattle.call.specs.Calls.{bytes_call};
 
 use call::check::checked;
