@@ -14,7 +14,7 @@ use Rattle.wire.specs.Zeros.{before_zero}
 use Rattle.wire.proofs.NumberLaws.{length_part, part-is}
 use Rattle.wire.proofs.PutLaws.{put-nil, put_one, put_two, put-put, put_byte}
 use Rattle.record.specs.Layout.{name_room, model_room, at_name, at_inputs}
-use Rattle.wire.proofs.ZeroLaws.{cut-take, cut-le}
+use Rattle.wire.proofs.ZeroLaws.{cut-take}
 use Rattle.record.proofs.Parts.{part_at}
 use Rattle.command.specs.Rows.{model_data}
 use Rattle.data.specs.PutsData.{PutsData}
@@ -73,28 +73,31 @@ module _ (d : List ℕ) (at : ℕ) (room : at + data_most ≤ length d) where
 
 -- ---- the model, up to its first zero as the search finds it
 
-module _ (s : List ℕ) (from : ℕ) (l : from + model_room ≤ length s) (end : ℕ) (found : end ≡ from + length (before_zero (take (from + model_room - from) (drop from s)))) where
+module _ (s : List ℕ) (from : ℕ) (l : from + model_room ≤ length s) (n : ℕ) (found : n ≡ length (before_zero (take (from + model_room - from) (drop from s)))) where
+  abbrev whole : List ℕ
+  whole = take (from + model_room - from) (drop from s)
+
   abbrev model : List ℕ
   model = before_zero (bytes_at model_room s from)
 
-  model-end : end ≡ from + length model
-  model-end =
-      let all : from + model_room - from ≡ model_room = omega arith in
-      found ∙ ap (λ (x : List ℕ). from + length (before_zero x)) (ap (λ (n : ℕ). take n (drop from s)) all ∙ sym (part-is model_room s from l))
+  room-is : whole ≡ bytes_at model_room s from
+  room-is = let all : from + model_room - from ≡ model_room = omega arith in rw all (sym (part-is model_room s from l))
 
-  model-part : take (end - from) (drop from s) ≡ model
+  model-end : n ≡ length model
+  model-end = found ∙ ap (λ (x : List ℕ). length (before_zero x)) room-is
+
+  model-part : take (n - 0) whole ≡ model
   model-part =
-      let n : end - from ≡ length model = omega (arith, model-end) in
-      let front = take-take (length model) model_room (drop from s) (cut-le (bytes_at model_room s from)) in
-      rw n (sym front ∙ ap (take (length model)) (sym (part-is model_room s from l)) ∙ cut-take (bytes_at model_room s from))
+      let m : n - 0 ≡ length model = omega (arith, model-end) in
+      rw (m, room-is) (cut-take (bytes_at model_room s from))
 
-  module _ (d : List ℕ) (at : ℕ) (room : at + data_most ≤ length d) (x : List ℕ) (copied : x ≡ put d at (take (end - from) (drop from s))) where
-    pub answers-cut : end < from + model_room → (behind : ℕ) → behind ≡ at + length (take (end - from) (drop from s)) → PutsData d at (model_data model) (end - from + 1) (set x behind 0x00)
+  module _ (d : List ℕ) (at : ℕ) (room : at + data_most ≤ length d) (x : List ℕ) (copied : x ≡ put d at (take (n - 0) whole)) where
+    pub answers-cut : n < model_room → (behind : ℕ) → behind ≡ at + length (take (n - 0) whole) → PutsData d at (model_data model) (n + 1) (set x behind 0x00)
     answers-cut h behind e =
         let short : length model < model_room = omega (arith, model-end) in
         rw (e, copied, model-part, lt-ltb (length model) model_room short) (simp length-append (omega (arith, model-end)), omega arith, put_byte d at model 0x00 (omega arith))
 
-    pub answers-whole : from + model_room ≤ end → end ≤ from + model_room → PutsData d at (model_data model) model_room x
+    pub answers-whole : model_room ≤ n → n ≤ length whole → PutsData d at (model_data model) model_room x
     answers-whole h k =
-        let full : length model ≡ model_room = omega (arith, model-end) in
+        let full : length model ≡ model_room = omega (arith, model-end, k, ap length room-is, length_part model_room s from) in
         rw (copied, model-part, le-ltb (length model) model_room (omega arith), append-nil model) (sym full, omega arith, refl)

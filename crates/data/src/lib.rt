@@ -88,12 +88,12 @@ pub fn put_model(out: &mut [u8], at: usize, rec: &[u8], from: usize) -> usize
     requires { (from + model_room ≤ length rec.now) × (at + data_most ≤ length out.old) }
     ensures { PutsData out.old at (model_data (before_zero (bytes_at model_room rec.now from))) result out.new }
 {
-    let most = from + MODEL_ROOM;
-    let end = first_zero(rec, from, most);
-    let behind = put_few(out, at, &rec[from..end]);
-    if end < most {
+    let model = &rec[from..from + MODEL_ROOM];
+    let n = first_zero(model);
+    let behind = put_few(out, at, &model[0..n]);
+    if n < MODEL_ROOM {
         out[behind] = 0x00;
-        return end - from + 1;
+        return n + 1;
     }
     MODEL_ROOM
 }

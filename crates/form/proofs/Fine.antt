@@ -76,16 +76,15 @@ module _ (s : List ℕ) (whole : at_pairs ≤ length s) where
 
 -- ---- the model, from its first zero on
 
-pub model_is : (s : List ℕ) (at : ℕ) → at + model_room ≤ length s → (first : ℕ) → first ≡ at + length (before_zero (part s at (at + model_room)))
-    → all_zero (part s first (at + model_room)) ≡ zeros_behind (bytes_at model_room s at)
+pub model_is : (s : List ℕ) (at : ℕ) → at + model_room ≤ length s → (first : ℕ) → first ≡ length (before_zero (part s at (at + model_room)))
+    → all_zero (take (model_room - first) (drop first (part s at (at + model_room)))) ≡ zeros_behind (bytes_at model_room s at)
 model_is s at h first e =
     let all : at + model_room - at ≡ model_room = omega arith in
-    let p : bytes_at model_room s at ≡ part s at (at + model_room) = part-is model_room s at h ∙ ap (λ (m : ℕ). take m (drop at s)) (sym all) in
-    let n : ℕ = length (before_zero (part s at (at + model_room))) in
-    let b : at + model_room - at - n ≡ at + model_room - (at + n) = omega arith in
-    rw e
-    (sym (ap zeros_behind p ∙ behind-is (part s at (at + model_room))
-    ∙ ap all_zero (drop-take n (at + model_room - at) (drop at s) ∙ ap (take (at + model_room - at - n)) (drop-drop n at s) ∙ ap (λ (m : ℕ). take m (drop (at + n) s)) b)))
+    let whole : List ℕ = take model_room (drop at s) in
+    let behind : take (model_room - first) (drop first whole) ≡ drop first whole =
+    ap (take (model_room - first)) (drop-take first model_room (drop at s)) ∙ take-take (model_room - first) (model_room - first) (drop first (drop at s)) (omega arith) ∙ sym (drop-take first model_room (drop at s)) in
+    let found : first ≡ length (before_zero whole) = rw all at e in
+    rw (all, behind, part-is model_room s at h, found) (sym (behind-is whole))
 
 -- no model
 zeros-behind : (l : List ℕ) → all_zero l ≡ true → zeros_behind l ≡ true

@@ -103,9 +103,9 @@ pub fn model_fine(s: &[u8], at: usize) -> bool
     requires { at + model_room ≤ length s.now }
     ensures { result ≡ zeros_behind (bytes_at model_room s.now at) }
 {
-    let end = at + MODEL_ROOM;
-    let zero = first_zero(s, at, end);
-    zeros(s, zero, end)
+    let model = &s[at..at + MODEL_ROOM];
+    let zero = first_zero(model);
+    zeros(&model[zero..MODEL_ROOM])
 }
 
 // Whether n bytes from a place on are such as the hunt leaves waiting.
@@ -137,7 +137,7 @@ pub fn pending_fine(s: &[u8]) -> bool
         return false;
     }
     if waiting_fine(s, AT_PENDING, n) {
-        return zeros(s, AT_PENDING + n, AT_PAIRS);
+        return zeros(&s[AT_PENDING + n..AT_PAIRS]);
     }
     false
 }
@@ -166,7 +166,7 @@ fn pairs_fine(s: &[u8]) -> bool
     if flag_in(s[AT_FLAGS], Flag::Reading) {
         return pairs_seen(s, AT_PAIRS);
     }
-    all_zero(s, AT_PAIRS, RECORD_SIZE)
+    all_zero(&s[AT_PAIRS..RECORD_SIZE])
 }
 
 // A check answers a Form, as each check here answers an enum. It returns at each group: in one chain of `&&` the branches join nine deep, and its proof did not close.
@@ -192,10 +192,10 @@ pub fn form_of(s: &[u8]) -> Form
         return Form::Bad;
     }
     // Mostly there is no model and nothing waits, and then no bytes are looked at one by one.
-    if !all_zero(s, AT_MODEL, AT_PENDING_LENGTH) && !model_fine(s, AT_MODEL) {
+    if !all_zero(&s[AT_MODEL..AT_PENDING_LENGTH]) && !model_fine(s, AT_MODEL) {
         return Form::Bad;
     }
-    if !all_zero(s, AT_PENDING_LENGTH, AT_PAIRS) && !pending_fine(s) {
+    if !all_zero(&s[AT_PENDING_LENGTH..AT_PAIRS]) && !pending_fine(s) {
         return Form::Bad;
     }
     if !pairs_fine(s) {

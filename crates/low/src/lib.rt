@@ -1,7 +1,7 @@
 // Words of four and eight bytes, low byte first, which the compiler reads and stores at once.
 #![tactic(auto)]
 
-ghost use Rattle.std.specs.Prelude.{◌≡◌, ◌+◌, ◌-◌, ◌≤◌, length, take, drop};
+ghost use Rattle.std.specs.Prelude.{◌≡◌, ◌+◌, ◌≤◌, length};
 ghost use Rattle.wire.specs.Numbers.{bytes_at, put};
 ghost use Rattle.wire.specs.Zeros.{all_zero};
 ghost use Rattle.low.specs.Low.{low_bytes};
@@ -45,9 +45,8 @@ pub fn put_eight(buffer: &mut [u8], at: usize, w: u64)
 }
 
 // Whether bytes are all zero, by the bits of all of them: without a way out the compiler looks at many at once.
-pub fn all_zero(s: &[u8], from: usize, to: usize) -> bool
-    requires { (from ≤ to) × (to ≤ length s.now) }
-    ensures { result ≡ all_zero (take (to - from) (drop from s.now)) }
+pub fn all_zero(part: &[u8]) -> bool
+    ensures { result ≡ all_zero part.now }
 {
-    s[from..to].iter().fold(0, |bits, b| bits | *b) == 0
+    part.iter().fold(0, |bits, b| bits | *b) == 0
 }

@@ -1,11 +1,11 @@
 -- A store in the bytes of a record is the change of its field, in the words of the code that stores.
 use Prim.Native.Nat.{ℕ, zero, suc, ◌+◌, ◌-◌, ◌≤◌}
-use mathlib.Core.Path.{◌≡◌, refl, ap, ◌∙◌}
+use mathlib.Core.Path.{◌≡◌, refl, ◌∙◌}
 use mathlib.Core.List.{List, []}
 use native.Mathlib.Nat.{sub-zero, suc-sub-suc}
 use native.Mathlib.Omega.{arith}
 use lib.ListN.{length, take, drop, set, replicate, length-set, length-replicate}
-use lib.Seq.{sets, take_all}
+use lib.Seq.{sets}
 use Rattle.wire.specs.Numbers.{bytes_at, put}
 use Rattle.wire.specs.Zeros.{before_zero}
 use Rattle.wire.proofs.NumberLaws.{length_part}
@@ -37,11 +37,9 @@ module _ (s : List ℕ) where
     turn-pending at room n same q w r i e = rw (e, same, ← w.1, ← w.0.stands) (set-pending_in q w.0.laid r p)
 
     -- n as the search for the first zero finds it
-    pub turn-model : (at m n : ℕ) → m ≡ model_room → n ≡ 0 + length (before_zero (take (length p - 0) (drop 0 p))) → TurnsAt ModelPart at s (sets s at (bytes_at m (take (n - 0) p) 0)) (λ r. with_model r (before_zero p))
+    pub turn-model : (at m n : ℕ) → m ≡ model_room → n ≡ length (before_zero p) → TurnsAt ModelPart at s (sets s at (bytes_at m (take n p) 0)) (λ r. with_model r (before_zero p))
     turn-model at m n same q plan w r i e =
-        let all : take (length p - 0) (drop 0 p) ≡ p = take_all (length p - 0) p (omega arith) in
-        let cut : n - 0 ≡ length (before_zero p) = omega (arith, q, ap (λ (l : List ℕ). length (before_zero l)) all) in
-        rw (e, same, cut, cut-take p, ← w.stands) (set-model_in plan w.laid r (before_zero p))
+        rw (e, same, q, cut-take p, ← w.stands) (set-model_in plan w.laid r (before_zero p))
 
 drop-zeros : (k n : ℕ) → k ≤ n → ◌≡◌ {A = List ℕ} (drop k (replicate n 0)) (replicate (n - k) 0)
 drop-zeros zero n h = rw sub-zero refl

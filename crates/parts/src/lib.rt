@@ -49,8 +49,8 @@ pub fn set_model(rec: &mut [u8], at: usize, p: &[u8])
     requires p_len_bound { length p.now ≤ model_room }
     ensures { TurnsAt ModelPart at rec.old rec.new (λ r. with_model r (before_zero p.now)) }
 {
-    let n = first_zero(p, 0, p.len());
-    put_part(rec, at, at + MODEL_ROOM, &p[0..n]);
+    let n = first_zero(p);
+    put_part(rec, at, at + MODEL_ROOM, &p[..n]);
 }
 
 // At the place and in the room that the layout gives them.

@@ -1,5 +1,5 @@
 -- `zeros`: `all` with the test for zero is the definition.
-use Rattle.std.proofs.Common.{rules, eqb, take, drop, ◌-◌, ◌∙◌}
+use Rattle.std.proofs.Common.{rules, eqb, ◌∙◌}
 use borrow.Author.Tests.{tests}
 use Rattle.std.proofs.lemmas.Iterator.{YieldsList-from_slice}
 use Rattle.std.proofs.lemmas.Iterator.Search.{all_from_yields_List}
@@ -8,5 +8,5 @@ use Rattle.numbers.proofs.zeros.zeros.Goals as goal
 
 pub returns : goal.returns
 returns c =
-    let part = take (c.args.to - c.args.from) (drop c.args.from c.args.s.now) in
+    let part = c.args.part.now in
     all_from_yields_List (λ b. eqb b 0) _ _ _ c.all.ensures.ran (YieldsList-from_slice part cc) (λ x b q k. search (rules, tests)) ∙ zero-list part
