@@ -44,10 +44,17 @@ pub fn put_eight(buffer: &mut [u8], at: usize, w: u64)
     buffer[at..at + 8].copy_from_slice(&w.to_le_bytes());
 }
 
-// Whether bytes are all zero, by the bits of all of them: without a way out the compiler looks at many at once.
+// Whether four or more bytes are all zero, by the bits of their words: the last word may lie over the one before it.
+// Tried: a fold of the bits of all bytes, which takes an eighth more on empty-input (165 instructions for 147).
 pub fn all_zero(s: &[u8], from: usize, to: usize) -> bool
-    requires { (from ≤ to) × (to ≤ length s.now) }
+    requires { (from + 4 ≤ to) × (to ≤ length s.now) }
     ensures { result ≡ all_zero (take (to - from) (drop from s.now)) }
 {
-    s[from..to].iter().fold(0, |bits, b| bits | *b) == 0
+    let mut bits = four_at(s, to - 4);
+    let mut at = from;
+    while at + 4 < to {
+        bits |= four_at(s, at);
+        at += 4;
+    }
+    bits == 0
 }

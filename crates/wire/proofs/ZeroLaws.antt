@@ -11,17 +11,11 @@ use lib.Dec.{eqb}
 use borrow.Author.Tests.{eqb-true}
 use Rattle.std.proofs.Common.{Option}
 use Rattle.std.proofs.lemmas.Iterator.{index_from_first}
-use Rattle.std.specs.List.{list_all, AllWithin, HoldsAt}
+use Rattle.std.specs.List.{AllWithin, HoldsAt}
 use Rattle.std.specs.Option.{MatchOption, unwrap_or}
 use Rattle.wire.specs.Numbers.{Bytes, bytes_at}
 use Rattle.wire.specs.Zeros.{all_zero, zeros_behind, before_zero}
 use Rattle.wire.proofs.NumberLaws.{bytes_take}
-
--- the definition as `all` computes it
-pub zero-list : (l : List ℕ) → list_all (λ b. eqb b 0) l ≡ all_zero l
-unfolding all_zero
-zero-list [] = refl
-zero-list (b ∷ l) = ap (λ (t : Bool). eqb b 0 && t) (zero-list l)
 
 -- ---- zeros behind a list
 

@@ -1,12 +1,26 @@
--- `zeros`: `all` with the test for zero is the definition.
-use Rattle.std.proofs.Common.{rules, eqb, take, drop, ◌-◌, ◌∙◌}
-use borrow.Author.Tests.{tests}
-use Rattle.std.proofs.lemmas.Iterator.{YieldsList-from_slice}
-use Rattle.std.proofs.lemmas.Iterator.Search.{all_from_yields_List}
-use Rattle.wire.proofs.ZeroLaws.{zero-list}
+-- `zeros`: the loop finds a byte that is not zero exactly where there is one.
+use native.Mathlib.Omega.{arith}
+use mathlib.Core.Path.{sym, ◌∙◌}
+use Rattle.wire.proofs.ScanLaws.{zero-skip, zero-hit, zero-end}
 use Rattle.numbers.proofs.zeros.zeros.Goals as goal
+
+pub loop-at-init : goal.loop-at-init
+loop-at-init c = c.past_zeros-at.ensures
+
+pub returns-then-s-at-ne0 : goal.returns-then-s-at-ne0
+returns-then-s-at-ne0 c =
+    let l = c.loop-at in
+    let a = c.args in
+    sym (l.invariant.1 ∙ zero-hit a.s.now l.at a.to (omega arith) (omega arith) c.if-s-at-ne0.true)
+
+pub loop-at-preserved : goal.loop-at-preserved
+loop-at-preserved c =
+    let l = c.loop-at in
+    let a = c.args in
+    (omega arith, l.invariant.1 ∙ zero-skip a.s.now l.at a.to (omega arith) (omega arith) c.if-s-at-ne0.false)
 
 pub returns : goal.returns
 returns c =
-    let part = take (c.args.to - c.args.from) (drop c.args.from c.args.s.now) in
-    all_from_yields_List (λ b. eqb b 0) _ _ _ c.all.ensures.ran (YieldsList-from_slice part cc) (λ x b q k. search (rules, tests)) ∙ zero-list part
+    let l = c.loop-at in
+    let a = c.args in
+    sym (l.invariant.1 ∙ zero-end a.s.now l.at a.to (omega arith))
