@@ -12,14 +12,11 @@ use Rattle.wire.specs.Frames.{Heads, Look, Skip, Wait, Take, Tear, look, Passed}
 use Rattle.wire.specs.declared.Size.TheVariants.{Of}
 use Rattle.wire.specs.Serial.{Fixed, NotHead, fronted, ends_in_85, line_head, heads_of, Noise}
 use Rattle.wire.specs.declared.Line.{Line}
-use Rattle.std.proofs.Common.{Option, Some, None, take, ◌-◌, ◌≢◌, subst}
+use Rattle.std.proofs.Common.{take, ◌-◌, ◌≢◌, subst}
 use Rattle.std.proofs.lemmas.List.Edits.{length-between}
 use Rattle.std.proofs.lemmas.List.Recursion.{and_at}
-use Rattle.std.specs.List.{list_all, fold, AllWithin, HoldsAt}
-use Rattle.std.specs.Option.{MatchOption, unwrap_or}
-use lib.Seq.{get_or-take, get_or-drop, take-take, drop-drop}
-use Rattle.wire.proofs.NumberLaws.{drop-take}
-use Rattle.wire.proofs.ScanLaws.{part}
+use Rattle.std.specs.List.{list_all, fold, AllWithin}
+use lib.Seq.{get_or-take, get_or-drop}
 use Rattle.finder.specs.Finder.{Reaches, StandsAt, Finds}
 use Rattle.finder.specs.declared.Seen.{Seen}
 use Rattle.finder.specs.declared.Seen.TheVariants.{Frame, Torn, NoMore}

@@ -3,7 +3,6 @@ use Rattle.std.proofs.Common.{rules, ℕ, List, length, take, drop, ◌≡◌, �
 use borrow.Author.Tests.{tests}
 use Rattle.std.proofs.lemmas.Iterator.{YieldsList-from_slice, IsFirst-from_position}
 use Rattle.std.proofs.lemmas.List.Edits.{length-between}
-use Rattle.std.specs.Option.{unwrap_or}
 use Rattle.wire.specs.Zeros.{before_zero}
 use Rattle.wire.proofs.ZeroLaws.{cut-first, cut-le}
 use Rattle.std.specs.Prelude.{◌≢◌}
