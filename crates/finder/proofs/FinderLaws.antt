@@ -12,14 +12,11 @@ use Rattle.wire.specs.Frames.{Heads, Look, Skip, Wait, Take, Tear, look, Passed}
 use Rattle.wire.specs.declared.Size.TheVariants.{Of}
 use Rattle.wire.specs.Serial.{Fixed, NotHead, fronted, ends_in_85, line_head, heads_of, Noise}
 use Rattle.wire.specs.declared.Line.{Line}
-use Rattle.std.proofs.Common.{Option, Some, None, take, ◌-◌, ◌≢◌, subst}
+use Rattle.std.proofs.Common.{take, ◌-◌, ◌≢◌, subst}
 use Rattle.std.proofs.lemmas.List.Edits.{length-between}
 use Rattle.std.proofs.lemmas.List.Recursion.{and_at}
-use Rattle.std.specs.List.{list_all, fold, AllWithin, HoldsAt}
-use Rattle.std.specs.Option.{MatchOption, unwrap_or}
-use lib.Seq.{get_or-take, get_or-drop, take-take, drop-drop}
-use Rattle.wire.proofs.NumberLaws.{drop-take}
-use Rattle.wire.proofs.ScanLaws.{part}
+use Rattle.std.specs.List.{list_all, fold, AllWithin}
+use lib.Seq.{get_or-take, get_or-drop}
 use Rattle.finder.specs.Finder.{Reaches, StandsAt, Finds}
 use Rattle.finder.specs.declared.Seen.{Seen}
 use Rattle.finder.specs.declared.Seen.TheVariants.{Frame, Torn, NoMore}
@@ -60,26 +57,6 @@ module _ (l : List ℕ) (from at until : ℕ) (h : at ≤ until) (m : until ≤ 
   noise-quiet e =
       let n : at + length rest ≡ until = omega (arith, long) in
       rw n at (still (length rest) (omega arith) (λ k d a b. eqb-false (get_or rest k d) 0xAA (not-true (eqb (get_or rest k d) 0xAA) (and_at (list_all is_quiet) is_quiet refl (λ _ _. refl) rest k d b e))))
-
-  -- what `position` finds
-  pub reaches-first : (r : Option ℕ) → MatchOption r (AllWithin (λ b. b ≢ 0xAA) rest 0 (length rest)) (λ i. (i < length rest) × HoldsAt (λ b. b ≡ 0xAA) rest i × AllWithin (λ b. b ≢ 0xAA) rest 0 i) → Reaches l from until (at + unwrap_or r (length rest))
-  reaches-first None w = record { noise = still (length rest) (omega arith) w; up_to = omega (arith, long); stops = inl (omega (arith, long)) }
-  reaches-first (Some i) w =
-      record { noise = still i (omega (arith, w.0)) w.2; up_to = omega (arith, long, w.0); stops = inr (sym (there i (omega (arith, long, w.0))) ∙ w.1 0) }
-
--- one turn of a leap, which has a part of the stream left
-pub leap-on : (l : List ℕ) (from until : ℕ) (rest sixteen behind : List ℕ) → until ≤ length l → length rest ≤ until - from → rest ≡ part l (until - length rest) until → Noise l from (until - length rest)
-    → sixteen ≡ take 16 rest → behind ≡ drop 16 rest → length behind + 16 ≡ length rest → list_all is_quiet sixteen ≡ true
-    → (length behind ≤ until - from) × (behind ≡ part l (until - length behind) until) × Noise l from (until - length behind)
-leap-on l from until rest sixteen behind m fits is p front back n e =
-    let at : ℕ = until - length rest in
-    let next : until - length behind ≡ at + 16 = omega arith in
-    let k : at + 16 - at ≡ 16 = omega arith in
-    let f : drop 16 rest ≡ take (until - (at + 16)) (drop (at + 16) l) =
-    let j : until - at - 16 ≡ until - (at + 16) = omega arith in
-    ap (drop 16) is ∙ drop-take 16 (until - at) (drop at l) ∙ ap₂ take j (drop-drop 16 at l) in
-    let g : sixteen ≡ take (at + 16 - at) (drop at l) = front ∙ ap (take 16) is ∙ take-take 16 (until - at) (drop at l) (omega arith) ∙ ap (λ (x : ℕ). take x (drop at l)) (sym k) in
-    (omega arith, rw next (back ∙ f), rw next (noise-quiet l from at (at + 16) (omega arith) (omega arith) p (rw g at e)))
 
 -- a search that begins at another byte than AA goes on
 pub reaches-on : (l : List ℕ) (from until at : ℕ) → Reaches l from until at → from < until → (get_or l from 0 ≡ 0xAA → ⊥) → from < at

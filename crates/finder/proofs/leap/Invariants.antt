@@ -1,11 +1,10 @@
--- `leap`: what is left is the end of the search, and none of the bytes before it is AA.
-use Rattle.std.proofs.Common.{◌-◌, ◌≤◌, ◌≡◌, length}
+-- `leap`: none of the bytes that are leapt over is AA.
 use Rattle.wire.specs.Serial.{Noise}
-use Rattle.wire.proofs.ScanLaws.{part}
+use Prim.Native.Nat.{◌-◌, ◌≤◌}
 use Rattle.finder.proofs.leap.Given as goal
 
-abbrev pub invariant-loop-sixteen : goal.invariant-loop-sixteen
-invariant-loop-sixteen l = (length l.rest ≤ l.until - l.from) × (l.rest ≡ part l.s (l.until - length l.rest) l.until) × Noise l.s l.from (l.until - length l.rest)
+abbrev pub invariant-loop-at : goal.invariant-loop-at
+invariant-loop-at l = Noise l.s l.from l.at × (l.at ≤ l.until)
 
-abbrev pub decreases-loop-sixteen : goal.decreases-loop-sixteen
-decreases-loop-sixteen l = length l.rest
+abbrev pub decreases-loop-at : goal.decreases-loop-at
+decreases-loop-at l = l.until - l.at
