@@ -1,7 +1,7 @@
 -- Zeros by words: a word is zero when its bytes are, and words may lie over each other.
 use Prim.Native.Nat.{ℕ, zero, suc, ◌+◌, ◌-◌, ◌*◌, ◌/◌, ◌%◌, ◌^◌, ◌≤◌, ◌<◌}
 use mathlib.Core.Path.{◌≡◌, refl, sym, ap, ap₂, ◌∙◌}
-use mathlib.Core.Bool.{Bool, true, false, ◌&&◌, and_assoc, and-true}
+use mathlib.Core.Bool.{Bool, true, false, ◌&&◌, and_assoc}
 use mathlib.Core.List.{List, [], ◌∷◌, ◌++◌}
 use native.Mathlib.Nat.{pow-suc, div-eq_of_lt}
 use native.Mathlib.Omega.{arith}
@@ -11,11 +11,10 @@ use lib.Bits.{bit_or, or_add_and, and_le_l, and_le_r}
 use lib.Pow.{pow_pos, shr-shr}
 use lib.Dec.{eqb}
 use borrow.Author.Tests.{eq-eqb, eqb-true}
-use Rattle.std.specs.List.{fold}
 use Rattle.wire.specs.Numbers.{bytes_at}
 use Rattle.wire.specs.Zeros.{all_zero}
 use Rattle.wire.proofs.NumberLaws.{part-is}
-use Rattle.wire.proofs.ScanLaws.{part}
+use Rattle.wire.proofs.ScanLaws.{part, part_none}
 use Rattle.low.specs.Low.{low_bytes}
 
 -- two tests that hold alike
@@ -28,16 +27,10 @@ same-zero a b t f g = go (eqb a 0) (eqb b 0) t refl refl refl
     go false true false p q r = refl
     go false false z p q r = refl
 
-or-zero : (a b : ℕ) → eqb (bit_or a b) 0 ≡ (eqb a 0 && eqb b 0)
+pub or-zero : (a b : ℕ) → eqb (bit_or a b) 0 ≡ (eqb a 0 && eqb b 0)
 or-zero a b =
     same-zero (bit_or a b) a (eqb b 0) (λ e. (omega (arith, or_add_and a b, and_le_l a b, and_le_r a b), eq-eqb b 0 (omega (arith, or_add_and a b, and_le_l a b, and_le_r a b))))
     (λ e f. omega (arith, or_add_and a b, eqb-true b 0 f))
-
--- the bits of all bytes, as a fold gathers them
-pub fold-zero : (s : List ℕ) (a : ℕ) → eqb (fold bit_or a s) 0 ≡ (eqb a 0 && all_zero s)
-unfolding all_zero
-fold-zero [] a = sym (and-true (eqb a 0))
-fold-zero (b ∷ s) a = fold-zero s (bit_or a b) ∙ ap (λ (t : Bool). t && all_zero s) (or-zero a b) ∙ and_assoc (eqb a 0) (eqb b 0) (all_zero s)
 
 pub low-zero : (n w : ℕ) → w < 256 ^ n → eqb w 0 ≡ all_zero (low_bytes n w)
 unfolding all_zero
@@ -67,7 +60,7 @@ zero-append [] b = refl
 zero-append (x ∷ a) b = ap (λ (t : Bool). eqb x 0 && t) (zero-append a b) ∙ sym (and_assoc (eqb x 0) (all_zero a) (all_zero b))
 
 module _ (s : List ℕ) where
-  abbrev zeros : ℕ → ℕ → Bool
+  abbrev pub zeros : ℕ → ℕ → Bool
   zeros a b = all_zero (part s a b)
 
   zeros-join : (a b c : ℕ) → a ≤ b → b ≤ c → zeros a c ≡ (zeros a b && zeros b c)
@@ -81,6 +74,23 @@ module _ (s : List ℕ) where
   zeros-word at w h b e =
       let n : at + 4 - at ≡ 4 = omega arith in
       low-zero 4 w b ∙ ap all_zero (e ∙ part-is 4 s at h ∙ ap (λ (j : ℕ). take j (drop at s)) (sym n))
+
+  -- the words of a scan: the last one first, then one behind the other
+  pub zeros-first : (from to w : ℕ) → 4 ≤ to → to ≤ length s → w < 0x100000000 → low_bytes 4 w ≡ bytes_at 4 s (to - 4) → eqb w 0 ≡ (zeros from from && zeros (to - 4) to)
+  unfolding all_zero
+  zeros-first from to w h k b e =
+      let n : to - 4 + 4 ≡ to = omega arith in
+      rw (part_none s from from (omega arith)) (rw n at (zeros-word (to - 4) w (omega arith) b e))
+
+  pub zeros-more : (from at : ℕ) (b w : ℕ) (l : Bool) → from ≤ at → eqb b 0 ≡ (zeros from at && l) → eqb w 0 ≡ zeros at (at + 4) → eqb (bit_or b w) 0 ≡ (zeros from (at + 4) && l)
+  zeros-more from at b w l h e f = or-zero b w ∙ ap₂ (◌&&◌) e f ∙ swap (zeros from at) l (zeros at (at + 4)) ∙ ap (λ (t : Bool). t && l) (sym (zeros-join from at (at + 4) h (omega arith)))
+    where
+      swap : (x y z : Bool) → ((x && y) && z) ≡ ((x && z) && y)
+      swap true true true = refl
+      swap true true false = refl
+      swap true false true = refl
+      swap true false false = refl
+      swap false y z = refl
 
   pub zeros-last : (from at to : ℕ) → from ≤ to - 4 → to - 4 ≤ at → at ≤ to → (zeros from at && zeros (to - 4) to) ≡ zeros from to
   zeros-last from at to h k l =
