@@ -2,16 +2,18 @@
 use Rattle.std.specs.Prelude.{Result, Ok, Err, ⊤}
 use Prim.Native.Nat.{ℕ, ◌+◌, ◌-◌, ◌≤◌}
 use mathlib.Core.Path.{◌≡◌, refl, sym, ap, subst⁻¹, ◌∙◌}
-use mathlib.Core.List.{List, []}
+use mathlib.Core.List.{List, [], ◌++◌, append-nil}
 use native.Mathlib.Omega.{arith}
-use lib.ListN.{length, get_or, take, drop}
+use lib.ListN.{length, get_or, take, drop, length-drop, drop_of_length-le}
+use lib.Seq.{drop-drop, take_all}
+use borrow.Rule.Slice.PartMut.{put_mid}
 use Rattle.wire.specs.Sizes.{frame_most}
 use Rattle.wire.specs.Numbers.{Bytes, put}
 use Rattle.wire.specs.Serial.{head_of, number_of, params_of}
 use Rattle.wire.specs.Replies.{Reply, kind_of, reply_bytes, around}
 use Rattle.wire.specs.declared.Range.{Range}
 use Rattle.wire.specs.declared.Range.TheVariants.{Fits, Big, Small}
-use Rattle.wire.proofs.PutLaws.{put-nil}
+use Rattle.wire.proofs.PutLaws.{put-nil, put-zero}
 use Rattle.wire.proofs.ReplyLaws.{length-reply, closed-reply}
 use Rattle.record.specs.Record.{Record}
 use Rattle.record.specs.Layout.{bytes_of, record_of}
@@ -123,23 +125,23 @@ module _ (s : List ℕ) (sound : Sound s) (head number : ℕ) (p : List ℕ) whe
       let h : Checks r head number p (Refuse BadCode) = rw (v, told) at (checks r head number p) in
       rw (sound.same, get-tries r) (wrong_code (need_of h.0) r p h.3).1
 
-  module _ (b : Bytes p) (before : List ℕ) (at : ℕ) where
+  module _ (b : Bytes p) (before : List ℕ) where
     -- the record after f, which is what the step leaves
     held_by : (f : Record → Record) → (step_by r head number p).after ≡ f r → (t : List ℕ) → Turns s t f → Holds (step_by r head number p).after t
     held_by f a t g = rw a (turn_holds r s sound t f g (rw (← a) (by_in r head number p b sound.fit)))
 
-    pub acts-denied : (why : Refusal) → verdict_of r head number p ≡ Refuse why → (t : List ℕ) → Turns s t (λ x. left_by why x) → Acts r head number p before at (Err why) t before
+    pub acts-denied : (why : Refusal) → verdict_of r head number p ≡ Refuse why → (t : List ℕ) → Turns s t (λ x. left_by why x) → Acts r head number p before (Err why) t before
     acts-denied why e t g =
         let q = step-of (Refuse why) e in
         let body : (step_by r head number p).reply.body ≡ [] = ap (λ (x : Step). x.reply.body) q in
         record {
           held = held_by (λ x. left_by why x) (ap (λ (x : Step). x.after) q) t g;
           status = ap (λ (x : Step). x.reply.status) q;
-          told = rw body (refl, omega arith, sym (put-nil before (at + 3)));
+          told = rw body (refl, omega arith, sym (put-nil before 0));
         }
 
     module _ (w : Passes r head number p) where
-      pub acts : (d : Result ℕ Refusal) (t after : List ℕ) → Carried number s p before at d t after → Acts r head number p before at d t after
+      pub acts : (d : Result ℕ Refusal) (t after : List ℕ) → Carried number s p before d t after → Acts r head number p before d t after
       acts (Ok n) t after h =
           let c = w.0 in
           let d = h c (named-is head number c w.1) in
@@ -159,7 +161,8 @@ part f = take (length f - 1 - 3) (drop 3 f)
 part-is : (f : List ℕ) → part f ≡ params_of f
 part-is f = let e : length f - 1 - 3 ≡ length f - 4 = omega arith in rw e refl
 
-module _ (r : Record) (f : List ℕ) {before : List ℕ} {at : ℕ} {a : Result ℕ Refusal} {kept mid : List ℕ} (acts : Acts r (head_of f) (number_of f) (part f) before at a kept mid) (room : at + frame_most ≤ length before) where
+-- kind and step of a frame
+module _ (r : Record) (f : List ℕ) where
   kind-is : (step_of r f).reply.kind ≡ kind_of (head_of f)
   kind-is = ap (λ (y : Step). y.reply.kind) (step_is r f) ∙ by (verdict r f)
     where
@@ -170,17 +173,34 @@ module _ (r : Record) (f : List ℕ) {before : List ℕ} {at : ℕ} {a : Result 
   step-as : step_of r f ≡ step_by r (head_of f) (number_of f) (part f)
   step-as = step_by_lem r f ∙ rw (part-is f) refl
 
+-- what is lent of a buffer from a place on
+abbrev pub rest : List ℕ → ℕ → List ℕ
+rest d at = take (length d - at) (drop at d)
+
+placed : (d s : List ℕ) (at : ℕ) → at + (length d - at) ≡ length d → put_mid at (length d - at) d (s ++ drop (length s) (drop at d)) ≡ put d at s
+unfolding put
+placed d s at n = let none : drop (length d - at) (drop at d) ≡ [] = drop_of_length-le (drop at d) (simp length-drop (omega arith)) in rw (none, append-nil (s ++ drop (length s) (drop at d)), drop-drop (length s) at d) refl
+
+-- data at its front stand in the buffer from that place on
+put-rest : (d s : List ℕ) (at : ℕ) → at ≤ length d → put_mid at (length d - at) d (put (rest d at) 0 s) ≡ put d at s
+put-rest d s at h =
+    let all : rest d at ≡ drop at d = take_all (length d - at) (drop at d) (simp length-drop (omega arith)) in
+    rw (all, put-zero (drop at d) s) (placed d s at (omega arith))
+
+module _ (r : Record) (f before : List ℕ) (at : ℕ) {a : Result ℕ Refusal} {kept told : List ℕ} (acts : Acts r (head_of f) (number_of f) (part f) (rest before (at + 3)) a kept told) (room : at + frame_most ≤ length before) where
   -- the reply closed with the status and the count of what was said
-  pub carries : {status n end : ℕ} {after : List ℕ} {said : Result ℕ Refusal} → a ≡ said → status ≡ status_in said → n ≡ count_in said → (end ≡ at + 4 + n) × (after ≡ around mid at (get_or f 1 0) status n) → Carries r f before at end kept after
+  pub carries : {status n end : ℕ} {after : List ℕ} {said : Result ℕ Refusal} → a ≡ said → status ≡ status_in said → n ≡ count_in said → (end ≡ at + 4 + n) × (after ≡ around (put_mid (at + 3) (length before - (at + 3)) before told) at (get_or f 1 0) status n) → Carries r f before at end kept after
   carries {status} {n} e st m q =
       let x : List ℕ = (step_of r f).reply.body in
-      let d : PutsData before (at + 3) x n mid = rw (m, ← e, step-as) acts.told in
-      let same : (step_of r f).reply.status ≡ status = ap (λ (y : Step). y.reply.status) step-as ∙ acts.status ∙ ap status_in e ∙ sym st in
-      let reply : (step_of r f).reply ≡ record { kind = kind_of (head_of f); status = status; body = x } = λ i. record { kind = kind-is i; status = same i; body = x } in
+      let d : PutsData (rest before (at + 3)) x n told = rw (m, ← e, step-as r f) acts.told in
+      let mid : List ℕ = put_mid (at + 3) (length before - (at + 3)) before told in
+      let stands : mid ≡ put before (at + 3) x = rw d.2 (put-rest before x (at + 3) (omega (arith, room))) in
+      let same : (step_of r f).reply.status ≡ status = ap (λ (y : Step). y.reply.status) (step-as r f) ∙ acts.status ∙ ap status_in e ∙ sym st in
+      let reply : (step_of r f).reply ≡ record { kind = kind_of (head_of f); status = status; body = x } = λ i. record { kind = kind-is r f i; status = same i; body = x } in
       let long : length (reply_bytes (step_of r f).reply) ≡ 4 + n = length-reply (step_of r f).reply ∙ ap (λ (k : ℕ). 4 + k) (sym d.0) in
       record {
-        held = rw step-as acts.held;
+        held = rw (step-as r f) acts.held;
         ends = rw long (omega (arith, q.0));
         small = omega (arith, q.0, d.1);
-        bytes = q.1 ∙ closed-reply before at (get_or f 1 0) status n x mid (sym d.0) (omega (arith, d.1)) d.2 ∙ ap (λ (y : Reply). put before at (reply_bytes y)) (sym reply);
+        bytes = q.1 ∙ closed-reply before at (get_or f 1 0) status n x mid (sym d.0) (omega (arith, d.1)) stands ∙ ap (λ (y : Reply). put before at (reply_bytes y)) (sym reply);
       }

@@ -31,14 +31,14 @@ count_in (Ok n) = n
 count_in (Err why) = 0
 
 -- a number under a head judged and carried out: the record that it leaves, and its data where the reply has them
-pub record Acts (r : Record) (head number : ℕ) (p before : List ℕ) (at : ℕ) (a : Result ℕ Refusal) (kept after : List ℕ) : Type 0 where
+pub record Acts (r : Record) (head number : ℕ) (p before : List ℕ) (a : Result ℕ Refusal) (kept after : List ℕ) : Type 0 where
   pub held : Holds (step_by r head number p).after kept
   pub status : (step_by r head number p).reply.status ≡ status_in a
-  pub told : PutsData before (at + 3) (step_by r head number p).reply.body (count_in a) after
+  pub told : PutsData before (step_by r head number p).reply.body (count_in a) after
 
 -- under whatever head has the entry
-abbrev pub ActsBy : ℕ → ℕ → Record → List ℕ → List ℕ → ℕ → Result ℕ Refusal → List ℕ → List ℕ → Type 0
-ActsBy entry number r p before at a kept after = (head : ℕ) → unpacked entry ≡ rows_say head number → Acts r head number p before at a kept after
+abbrev pub ActsBy : ℕ → ℕ → Record → List ℕ → List ℕ → Result ℕ Refusal → List ℕ → List ℕ → Type 0
+ActsBy entry number r p before a kept after = (head : ℕ) → unpacked entry ≡ rows_say head number → Acts r head number p before a kept after
 
 -- a whole frame carried out and answered
 pub record Carries (r : Record) (f before : List ℕ) (at end : ℕ) (kept after : List ℕ) : Type 0 where

@@ -2,7 +2,7 @@
 #![tactic(auto)]
 
 ghost use Rattle.std.specs.Prelude.{◌≡◌, true, ◌+◌, ◌≤◌, length};
-ghost use Rattle.wire.specs.Sizes.{frame_most};
+ghost use Rattle.wire.specs.Sizes.{data_most, frame_most};
 ghost use Rattle.wire.specs.Serial.{is_head, head_of};
 ghost use Rattle.record.specs.Layout.{record_of};
 ghost use Rattle.record.specs.InPlace.{Sound, Turns};
@@ -28,25 +28,24 @@ fn refuse_on(rec: &mut [u8], why: Refusal)
     }
 }
 
-// Judges a command by its entry of the table and carries it out; its data come to stand where a reply that begins at a place has them.
+// Judges a command by its entry of the table and carries it out; the data of the reply come to stand at the front of `body`.
 pub fn act(
     entry: u8,
     rec: &mut [u8],
     number: u8,
     p: &[u8],
-    out: &mut [u8],
-    at: usize,
+    body: &mut [u8],
 ) -> Result<usize, Refusal>
     requires sound { Sound rec.old }
     requires entered { Entered entry number }
-    requires frame_most_in_bounds { at + frame_most ≤ length out.old }
-    ensures { ActsBy entry number (record_of rec.old) p.now out.old at result rec.new out.new }
+    requires data_most_in_bounds { data_most ≤ length body.old }
+    ensures { ActsBy entry number (record_of rec.old) p.now body.old result rec.new body.new }
 {
     if let Err(why) = judge(entry, rec, p) {
         refuse_on(rec, why);
         return Err(why);
     }
-    carry_out(rec, number, p, out, at)
+    carry_out(rec, number, p, body)
 }
 
 // Carries out a whole frame and writes the reply at a place; returns the place behind it.
@@ -61,7 +60,7 @@ pub fn carry(rec: &mut [u8], frame: &[u8], out: &mut [u8], at: usize) -> usize
     let head = frame[1];
     let number = frame[2];
     let entry = entry_of(head, number);
-    let said = act(entry, rec, number, p, out, at);
+    let said = act(entry, rec, number, p, &mut out[at + 3..]);
     match said {
         Ok(n) => {
             // Most replies have no data: the compiler makes a shorter path for them.

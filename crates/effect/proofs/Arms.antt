@@ -1,6 +1,6 @@
 -- In the arm of a number: which command it is, and what that command leaves.
 use Rattle.std.specs.Prelude.{Result, Ok, Err}
-use Prim.Native.Nat.{ℕ, ◌+◌, ◌≤◌}
+use Prim.Native.Nat.{ℕ, ◌≤◌}
 use mathlib.Core.Path.{◌≡◌, refl, sym, subst, ap, ◌∙◌}
 use mathlib.Core.List.{List, [], ◌∷◌}
 use native.Mathlib.Nat.{le_antisymm}
@@ -34,23 +34,23 @@ module _ (number : ℕ) (k : Command) (named : named_by number ≡ Built k) wher
   pub counted : (n : ℕ) → Calls number n → counted_of k n ≡ Right
   counted n h = subst (λ (c : Command). counted_of c n ≡ Right) (sym (only h.0 h.1)) h.2
 
-  module _ (s p before : List ℕ) (at : ℕ) where
-    pub carried : (d : Result ℕ Refusal) (t after : List ℕ) → Does k s p before at d t after → Carried number s p before at d t after
-    carried d t after h c e = subst (λ (x : Command). Does x s p before at d t after) (only c e) h
+  module _ (s p before : List ℕ) where
+    pub carried : (d : Result ℕ Refusal) (t after : List ℕ) → Does k s p before d t after → Carried number s p before d t after
+    carried d t after h c e = subst (λ (x : Command). Does x s p before d t after) (only c e) h
 
     -- a command that only changes: no data
-    pub stored : data_of k (record_of s) p ≡ [] → (d : Result ℕ Refusal) (t : List ℕ) → Stores k s p d t → Carried number s p before at d t before
+    pub stored : data_of k (record_of s) p ≡ [] → (d : Result ℕ Refusal) (t : List ℕ) → Stores k s p d t → Carried number s p before d t before
     stored none d t h = carried d t before (does d h)
       where
-        does : (d : Result ℕ Refusal) → Stores k s p d t → Does k s p before at d t before
-        does (Ok n) h = (h.0, h.1, rw (none, h.2) (refl, omega arith, sym (put-nil before (at + 3))))
+        does : (d : Result ℕ Refusal) → Stores k s p d t → Does k s p before d t before
+        does (Ok n) h = (h.0, h.1, rw (none, h.2) (refl, omega arith, sym (put-nil before 0)))
         does (Err why) h = (h.0, h.1, refl)
 
     -- one that only reads
-    pub told : ((r : Record) → effect_of k r p ≡ r) → (d : Result ℕ Refusal) (after : List ℕ) → Tells k s p before at d after → Carried number s p before at d s after
+    pub told : ((r : Record) → effect_of k r p ≡ r) → (d : Result ℕ Refusal) (after : List ℕ) → Tells k s p before d after → Carried number s p before d s after
     told same d after h = carried d s after (does d h)
       where
-        does : (d : Result ℕ Refusal) → Tells k s p before at d after → Does k s p before at d s after
+        does : (d : Result ℕ Refusal) → Tells k s p before d after → Does k s p before d s after
         does (Ok n) h = (h.0, λ r i e. e ∙ ap bytes_of (sym (same r)), h.1)
         does (Err why) h = (h.0, refl, h.1)
 

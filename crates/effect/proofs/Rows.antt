@@ -23,5 +23,5 @@ module _ (s : List ℕ) (h : Sound s) where
 
 -- a command that changes one part and tells nothing
 module _ (number : ℕ) (k : Command) (named : named_by number ≡ Built k) (q : Part) (there : has current.parts q ≡ true) where
-  pub changes : (s p before : List ℕ) (at : ℕ) (t : List ℕ) → range_of k p ≡ Fits → data_of k (record_of s) p ≡ [] → TurnsAt q (place current q) s t (λ r. effect_of k r p) → Carried number s p before at (Ok 0) t before
-  changes s p before at t fits none h = stored number k named s p before at none (Ok 0) t (stores k q (place current q) there refl s p t fits h)
+  pub changes : (s p before : List ℕ) (t : List ℕ) → range_of k p ≡ Fits → data_of k (record_of s) p ≡ [] → TurnsAt q (place current q) s t (λ r. effect_of k r p) → Carried number s p before (Ok 0) t before
+  changes s p before t fits none h = stored number k named s p before none (Ok 0) t (stores k q (place current q) there refl s p t fits h)

@@ -1,5 +1,5 @@
 -- Inner contract: what a command that may be carried out leaves, by its number alone.
-use Rattle.std.specs.Prelude.{ℕ, ◌+◌, ◌≡◌, List, Result, Ok, Err}
+use Rattle.std.specs.Prelude.{ℕ, ◌≡◌, List, Result, Ok, Err}
 use Rattle.wire.specs.declared.Range.TheVariants.{Fits}
 use Rattle.record.specs.Layout.{record_of}
 use Rattle.record.specs.InPlace.{Turns}
@@ -17,11 +17,11 @@ use Rattle.data.specs.PutsData.{PutsData}
 abbrev pub Calls : ℕ → ℕ → Type 0
 Calls number n = (c : Command) × (named_by number ≡ Built c) × (counted_of c n ≡ Right)
 
--- what a command with the parameters p leaves of the record bytes s and of the output `before`, in which a reply begins at a place: its data stand three bytes behind that; out of range the check of the range says why, and nothing is written
-abbrev pub Does : Command → List ℕ → List ℕ → List ℕ → ℕ → Result ℕ Refusal → List ℕ → List ℕ → Type 0
-Does c s p before at (Ok n) t after = (range_of c p ≡ Fits) × Turns s t (λ r. effect_of c r p) × PutsData before (at + 3) (data_of c (record_of s) p) n after
-Does c s p before at (Err why) t after = (by_range (range_of c p) (Do c) ≡ Refuse why) × (t ≡ s) × (after ≡ before)
+-- what a command with the parameters p leaves of the record bytes s and of the part `before` of the output, at whose front the data of the reply stand; out of range the check of the range says why, and nothing is written
+abbrev pub Does : Command → List ℕ → List ℕ → List ℕ → Result ℕ Refusal → List ℕ → List ℕ → Type 0
+Does c s p before (Ok n) t after = (range_of c p ≡ Fits) × Turns s t (λ r. effect_of c r p) × PutsData before (data_of c (record_of s) p) n after
+Does c s p before (Err why) t after = (by_range (range_of c p) (Do c) ≡ Refuse why) × (t ≡ s) × (after ≡ before)
 
 -- of whatever command has the number
-abbrev pub Carried : ℕ → List ℕ → List ℕ → List ℕ → ℕ → Result ℕ Refusal → List ℕ → List ℕ → Type 0
-Carried number s p before at d t after = (c : Command) → named_by number ≡ Built c → Does c s p before at d t after
+abbrev pub Carried : ℕ → List ℕ → List ℕ → List ℕ → Result ℕ Refusal → List ℕ → List ℕ → Type 0
+Carried number s p before d t after = (c : Command) → named_by number ≡ Built c → Does c s p before d t after

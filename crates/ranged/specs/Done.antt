@@ -1,5 +1,5 @@
 -- Inner contract: what a command leaves that only changes the record, or only reads it.
-use Rattle.std.specs.Prelude.{ℕ, ◌+◌, ◌≡◌, List, [], Result, Ok, Err}
+use Rattle.std.specs.Prelude.{ℕ, ◌≡◌, List, [], Result, Ok, Err}
 use Rattle.wire.specs.declared.Range.TheVariants.{Fits}
 use Rattle.record.specs.declared.Setting.{Setting}
 use Rattle.record.specs.Layout.{record_of}
@@ -20,10 +20,10 @@ abbrev pub Stores : Command → List ℕ → List ℕ → Result ℕ Refusal →
 Stores c s p (Ok n) t = (range_of c p ≡ Fits) × Turns s t (λ r. effect_of c r p) × (n ≡ 0)
 Stores c s p (Err why) t = (by_range (range_of c p) (Do c) ≡ Refuse why) × (t ≡ s)
 
--- of the output, in which a reply begins at a place: the data stand three bytes behind that
-abbrev pub Tells : Command → List ℕ → List ℕ → List ℕ → ℕ → Result ℕ Refusal → List ℕ → Type 0
-Tells c s p before at (Ok n) after = (range_of c p ≡ Fits) × PutsData before (at + 3) (data_of c (record_of s) p) n after
-Tells c s p before at (Err why) after = (by_range (range_of c p) (Do c) ≡ Refuse why) × (after ≡ before)
+-- of the part of the output in which the data of the reply stand, at its front
+abbrev pub Tells : Command → List ℕ → List ℕ → List ℕ → Result ℕ Refusal → List ℕ → Type 0
+Tells c s p before (Ok n) after = (range_of c p ≡ Fits) × PutsData before (data_of c (record_of s) p) n after
+Tells c s p before (Err why) after = (by_range (range_of c p) (Do c) ≡ Refuse why) × (after ≡ before)
 
 -- ---- the two commands of a setting, by their numbers
 
@@ -33,8 +33,8 @@ IsRead number = (k : Setting) × ((numbers_of k).reader ≡ number)
 abbrev pub IsSet : ℕ → ℕ → Type 0
 IsSet number n = (k : Setting) × ((numbers_of k).setter ≡ number) × (n ≡ setting_width k)
 
-abbrev pub TellsSetting : ℕ → List ℕ → List ℕ → ℕ → Result ℕ Refusal → List ℕ → Type 0
-TellsSetting number s before at d after = (k : Setting) → (numbers_of k).reader ≡ number → Tells (Read k) s [] before at d after
+abbrev pub TellsSetting : ℕ → List ℕ → List ℕ → Result ℕ Refusal → List ℕ → Type 0
+TellsSetting number s before d after = (k : Setting) → (numbers_of k).reader ≡ number → Tells (Read k) s [] before d after
 
 abbrev pub StoresSetting : ℕ → List ℕ → List ℕ → Result ℕ Refusal → List ℕ → Type 0
 StoresSetting number s p d t = (k : Setting) → (numbers_of k).setter ≡ number → Stores (Set k) s p d t

@@ -1,8 +1,8 @@
 // Commands whose range is looked at, and those of a setting, one function each, which tells how many bytes of data it put, or why it is refused: out of range nothing is written.
 #![tactic(auto)]
 
-ghost use Rattle.std.specs.Prelude.{◌≡◌, ◌≢◌, ◌+◌, ◌≤◌, length};
-ghost use Rattle.wire.specs.Sizes.{frame_most};
+ghost use Rattle.std.specs.Prelude.{◌≡◌, ◌≢◌, ◌≤◌, length};
+ghost use Rattle.wire.specs.Sizes.{data_most};
 ghost use Rattle.wire.specs.declared.Range.TheVariants.{Fits};
 ghost use Rattle.record.specs.InPlace.{Sound};
 ghost use Rattle.command.specs.declared.Command.TheVariants.{SetName, SetInput, ReadInput, SwitchOutput, ReadPair};
@@ -36,13 +36,13 @@ fn refusal_of(range: Range) -> Refusal
 
 // ---- a setting
 
-pub fn read_setting(rec: &[u8], number: u8, out: &mut [u8], at: usize) -> Result<usize, Refusal>
+pub fn read_setting(rec: &[u8], number: u8, body: &mut [u8]) -> Result<usize, Refusal>
     requires sound { Sound rec.now }
     requires read { IsRead number }
-    requires frame_most_in_bounds { at + frame_most ≤ length out.old }
-    ensures { TellsSetting number rec.now out.old at result out.new }
+    requires data_most_in_bounds { data_most ≤ length body.old }
+    ensures { TellsSetting number rec.now body.old result body.new }
 {
-    Ok(put_setting(out, at + 3, rec, setting_of(number)))
+    Ok(put_setting(body, rec, setting_of(number)))
 }
 
 pub fn write_setting(rec: &mut [u8], number: u8, p: &[u8]) -> Result<usize, Refusal>
@@ -89,17 +89,17 @@ pub fn write_input(rec: &mut [u8], p: &[u8]) -> Result<usize, Refusal>
     Ok(0)
 }
 
-pub fn read_input(rec: &[u8], p: &[u8], out: &mut [u8], at: usize) -> Result<usize, Refusal>
+pub fn read_input(rec: &[u8], p: &[u8], body: &mut [u8]) -> Result<usize, Refusal>
     requires sound { Sound rec.now }
     requires p_value { counted_of ReadInput (length p.now) ≡ Right }
-    requires frame_most_in_bounds { at + frame_most ≤ length out.old }
-    ensures { Tells ReadInput rec.now p.now out.old at result out.new }
+    requires data_most_in_bounds { data_most ≤ length body.old }
+    ensures { Tells ReadInput rec.now p.now body.old result body.new }
 {
     let range = channel_range(p);
     let Range::Fits = range else {
         return Err(refusal_of(range));
     };
-    Ok(put_input(out, at + 3, rec, p[0]))
+    Ok(put_input(body, rec, p[0]))
 }
 
 pub fn write_output(rec: &mut [u8], p: &[u8]) -> Result<usize, Refusal>
@@ -115,15 +115,15 @@ pub fn write_output(rec: &mut [u8], p: &[u8]) -> Result<usize, Refusal>
     Ok(0)
 }
 
-pub fn read_pair(rec: &[u8], p: &[u8], out: &mut [u8], at: usize) -> Result<usize, Refusal>
+pub fn read_pair(rec: &[u8], p: &[u8], body: &mut [u8]) -> Result<usize, Refusal>
     requires sound { Sound rec.now }
     requires p_value { counted_of ReadPair (length p.now) ≡ Right }
-    requires frame_most_in_bounds { at + frame_most ≤ length out.old }
-    ensures { Tells ReadPair rec.now p.now out.old at result out.new }
+    requires data_most_in_bounds { data_most ≤ length body.old }
+    ensures { Tells ReadPair rec.now p.now body.old result body.new }
 {
     let range = pair_range(p);
     let Range::Fits = range else {
         return Err(refusal_of(range));
     };
-    Ok(put_pair(out, at + 3, rec, AT_PAIRS, p[0]))
+    Ok(put_pair(body, rec, AT_PAIRS, p[0]))
 }

@@ -14,7 +14,7 @@ pub returns-in-Err : goal.returns-in-Err
 returns-in-Err c head says =
     let sound = c.requires.sound in
     let told = c.judge.ensures _ sound.fit sound.same in
-    acts-denied _ sound head _ _ (λ i. omega (arith, c.type_inv.p i)) _ _ _ (refuses _ head c.args.number _ _ says told _ c.in-Err.is) _ c.refuse_on.ensures
+    acts-denied _ sound head _ _ (λ i. omega (arith, c.type_inv.p i)) _ _ (refuses _ head c.args.number _ _ says told _ c.in-Err.is) _ c.refuse_on.ensures
 
 pub carry_out-requires-clause-calls : goal.carry_out-requires-clause-calls
 carry_out-requires-clause-calls c =
@@ -27,4 +27,4 @@ pub returns : goal.returns
 returns c head says =
     let sound = c.requires.sound in
     let told = c.judge.ensures _ sound.fit sound.same in
-    acts _ sound head _ _ (λ i. omega (arith, c.type_inv.p i)) _ _ (passes _ head c.args.number _ _ says told c.in_default.is) _ _ _ c.carry_out.ensures
+    acts _ sound head _ _ (λ i. omega (arith, c.type_inv.p i)) _ (passes _ head c.args.number _ _ says told c.in_default.is) _ _ _ c.carry_out.ensures

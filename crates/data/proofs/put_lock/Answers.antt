@@ -8,6 +8,6 @@ pub returns : goal.returns
 returns c =
     let a = c.args in
     elim c.if-flag_in.branch [
-      | then-flag_in w ↦ rw (w.out-is, sym c.flag_in.ensures ∙ w.if-flag_in.true) (answers_one a.out.now a.at c.requires 0x08)
-      | else-flag_in w ↦ rw (w.out-is, sym c.flag_in.ensures ∙ w.if-flag_in.false) (answers_one a.out.now a.at c.requires 0x00)
+      | then-flag_in w ↦ rw (w.body-is, sym c.flag_in.ensures ∙ w.if-flag_in.true) (answers_one a.body.now c.requires 0x08)
+      | else-flag_in w ↦ rw (w.body-is, sym c.flag_in.ensures ∙ w.if-flag_in.false) (answers_one a.body.now c.requires 0x00)
     ]

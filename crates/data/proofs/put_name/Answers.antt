@@ -8,4 +8,4 @@ pub returns : goal.returns
 returns c =
     let a = c.args in
     let i = c.put_few in
-    answers-name a.out.now a.at c.requires.name_room_in_bounds.1 a.rec.now (get_or a.rec.now at_name_length 0) i.new.buffer c.requires.name_room_in_bounds.0 c.requires.at_name_length_bound i.ensures.1
+    answers-name a.body.now c.requires.name_room_in_bounds.1 a.rec.now (get_or a.rec.now at_name_length 0) i.new.buffer c.requires.name_room_in_bounds.0 c.requires.at_name_length_bound i.ensures.1

@@ -8,4 +8,4 @@ returns c =
     let a = c.args in
     let one = c.put_number in
     let two = c.put_number-2 in
-    answers-pair a.out.now a.at c.requires.channel_in_bounds.1 a.rec.now (a.pairs + 8 * (a.channel - 1)) one.new.buffer two.new.buffer one.ensures two.ensures
+    answers-pair a.body.now c.requires.channel_in_bounds.1 a.rec.now (a.pairs + 8 * (a.channel - 1)) one.new.buffer two.new.buffer one.ensures two.ensures

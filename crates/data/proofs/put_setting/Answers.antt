@@ -17,4 +17,4 @@ returns c =
     let a = c.args in
     let n = c.sheet_of-sheet.ensures.width in
     let e = c.put_number.ensures in
-    rw n (answers_number a.out.now a.at c.requires.1 a.rec.now (setting_place a.k) (setting_width a.k) c.put_number.new.buffer (narrow (setting_width a.k) (widths a.k)).1 (rw (n, c.sheet_of-sheet.ensures.place) at e))
+    rw n (answers_number a.body.now c.requires.1 a.rec.now (setting_place a.k) (setting_width a.k) c.put_number.new.buffer (narrow (setting_width a.k) (widths a.k)).1 (rw (n, c.sheet_of-sheet.ensures.place) at e))

@@ -47,34 +47,34 @@ write_setting-requires-clause-set c =
 
 pub returns-in-233 : goal.returns-in-233
 unfolding named_by data_of
-returns-in-233 c = stored c.args.number SetName (rw c.in-233.is refl) _ c.args.p.now _ _ refl _ _ c.write_name.ensures
+returns-in-233 c = stored c.args.number SetName (rw c.in-233.is refl) _ c.args.p.now _ refl _ _ c.write_name.ensures
 
 pub returns-in-235 : goal.returns-in-235
 unfolding named_by data_of
-returns-in-235 c = stored c.args.number SetInput (rw c.in-235.is refl) _ c.args.p.now _ _ refl _ _ c.write_input.ensures
+returns-in-235 c = stored c.args.number SetInput (rw c.in-235.is refl) _ c.args.p.now _ refl _ _ c.write_input.ensures
 
 pub returns-in-240 : goal.returns-in-240
 unfolding named_by effect_of
-returns-in-240 c = told c.args.number ReadInput (rw c.in-240.is refl) _ c.args.p.now _ _ (λ r. refl) _ _ c.read_input.ensures
+returns-in-240 c = told c.args.number ReadInput (rw c.in-240.is refl) _ c.args.p.now _ (λ r. refl) _ _ c.read_input.ensures
 
 pub returns-in-241 : goal.returns-in-241
 unfolding named_by data_of
-returns-in-241 c = stored c.args.number SwitchOutput (rw c.in-241.is refl) _ c.args.p.now _ _ refl _ _ c.write_output.ensures
+returns-in-241 c = stored c.args.number SwitchOutput (rw c.in-241.is refl) _ c.args.p.now _ refl _ _ c.write_output.ensures
 
 pub returns-in-25 : goal.returns-in-25
 unfolding named_by range_of effect_of data_of
-returns-in-25 c = changes c.args.number Unlock (rw c.in-25.is refl) FlagByte refl _ c.args.p.now _ _ _ refl refl search
+returns-in-25 c = changes c.args.number Unlock (rw c.in-25.is refl) FlagByte refl _ c.args.p.now _ _ refl refl search
 
 pub returns-in-28 : goal.returns-in-28
 unfolding named_by range_of effect_of data_of
-returns-in-28 c = changes c.args.number SetModel (rw c.in-28.is refl) ModelPart refl _ c.args.p.now _ _ _ refl refl search
+returns-in-28 c = changes c.args.number SetModel (rw c.in-28.is refl) ModelPart refl _ c.args.p.now _ _ refl refl search
 
 pub returns-in-83 : goal.returns-in-83
 unfolding named_by effect_of
-returns-in-83 c = told c.args.number ReadPair (rw c.in-83.is refl) _ c.args.p.now _ _ (λ r. refl) _ _ c.read_pair.ensures
+returns-in-83 c = told c.args.number ReadPair (rw c.in-83.is refl) _ c.args.p.now _ (λ r. refl) _ _ c.read_pair.ensures
 
 pub returns-in_default : goal.returns-in_default
 unfolding data_of
 returns-in_default c =
     let q = left-sets c.args.number (length c.args.p.now) c.requires.in_bounds.0 c.requires.in_bounds.1 (search rules) in
-    stored _ (Set q.0) q.1 _ c.args.p.now _ _ (refl {a = []}) _ _ (c.write_setting.ensures q.0 q.2)
+    stored _ (Set q.0) q.1 _ c.args.p.now _ (refl {a = []}) _ _ (c.write_setting.ensures q.0 q.2)

@@ -17,7 +17,7 @@ unfolding range_of
 returns-in_default c = (rw (sym c.channel_range-range.ensures) (c.refusal_of.ensures _), refl)
 
 pub put_input-requires-clause-at_inputs_in_bounds : goal.put_input-requires-clause-at_inputs_in_bounds
-put_input-requires-clause-at_inputs_in_bounds c = (omega (arith, sound-long c.args.rec.now c.requires.sound), omega (arith, c.requires.frame_most_in_bounds))
+put_input-requires-clause-at_inputs_in_bounds c = (omega (arith, sound-long c.args.rec.now c.requires.sound), c.requires.data_most_in_bounds)
 
 pub returns : goal.returns
 unfolding range_of data_of record_of

@@ -20,8 +20,8 @@ pub put_pair-requires-clause-channel_in_bounds : goal.put_pair-requires-clause-c
 unfolding range_of
 put_pair-requires-clause-channel_in_bounds c =
     let k = pair-channel c.args.p.now (sym c.pair_range-range.ensures ∙ c.in-Fits.is) in
-    (omega (arith, sound-long c.args.rec.now c.requires.sound, k), omega (arith, c.requires.frame_most_in_bounds))
+    (omega (arith, sound-long c.args.rec.now c.requires.sound, k), c.requires.data_most_in_bounds)
 
 pub returns : goal.returns
 unfolding range_of
-returns c = tells-pair _ _ _ _ _ _ c.requires.sound (sym c.pair_range-range.ensures ∙ c.in-Fits.is) c.put_pair.ensures
+returns c = tells-pair _ _ _ _ _ c.requires.sound (sym c.pair_range-range.ensures ∙ c.in-Fits.is) c.put_pair.ensures

@@ -7,7 +7,7 @@ use Rattle.ranged.proofs.Rows.{tells-setting}
 use Rattle.ranged.proofs.read_setting.Goals as goal
 
 pub put_setting-requires : goal.put_setting-requires
-put_setting-requires c = (omega (arith, setting-fits c.setting_of.result, sound-long c.args.rec.now c.requires.sound), omega (arith, c.requires.frame_most_in_bounds))
+put_setting-requires c = (omega (arith, setting-fits c.setting_of.result, sound-long c.args.rec.now c.requires.sound), c.requires.data_most_in_bounds)
 
 pub returns : goal.returns
-returns c j e = rw (sym (reads-one _ _ c.setting_of.ensures j e)) (tells-setting _ _ _ _ _ c.requires.sound c.setting_of.result c.put_setting.ensures)
+returns c j e = rw (sym (reads-one _ _ c.setting_of.ensures j e)) (tells-setting _ _ _ _ c.requires.sound c.setting_of.result c.put_setting.ensures)
