@@ -7,7 +7,7 @@ use native.Mathlib.Nat.{pow-suc, div-eq_of_lt}
 use native.Mathlib.Omega.{arith}
 use lib.ListN.{length, take, drop}
 use lib.Seq.{take-add, drop-drop}
-use lib.Bits.{bit_or, or_add_and, and_le_l, and_le_r}
+use lib.Bits.{bit_or}
 use lib.Pow.{pow_pos, shr-shr}
 use lib.Dec.{eqb}
 use borrow.Author.Tests.{eq-eqb, eqb-true}
@@ -15,22 +15,8 @@ use Rattle.wire.specs.Numbers.{bytes_at}
 use Rattle.wire.specs.Zeros.{all_zero}
 use Rattle.wire.proofs.NumberLaws.{part-is}
 use Rattle.wire.proofs.ScanLaws.{part, part_none}
+use Rattle.wire.proofs.ZeroLaws.{same-zero, or-zero}
 use Rattle.low.specs.Low.{low_bytes}
-
--- two tests that hold alike
-same-zero : (a b : ℕ) (t : Bool) → (a ≡ 0 → (b ≡ 0) × (t ≡ true)) → (b ≡ 0 → t ≡ true → a ≡ 0) → eqb a 0 ≡ (eqb b 0 && t)
-same-zero a b t f g = go (eqb a 0) (eqb b 0) t refl refl refl
-  where
-    go : (x y z : Bool) → eqb a 0 ≡ x → eqb b 0 ≡ y → t ≡ z → x ≡ (y && z)
-    go true y z p q r = let w = f (eqb-true a 0 p) in rw (sym q ∙ eq-eqb b 0 w.0, sym r ∙ w.1) refl
-    go false true true p q r = sym p ∙ eq-eqb a 0 (g (eqb-true b 0 q) r)
-    go false true false p q r = refl
-    go false false z p q r = refl
-
-pub or-zero : (a b : ℕ) → eqb (bit_or a b) 0 ≡ (eqb a 0 && eqb b 0)
-or-zero a b =
-    same-zero (bit_or a b) a (eqb b 0) (λ e. (omega (arith, or_add_and a b, and_le_l a b, and_le_r a b), eq-eqb b 0 (omega (arith, or_add_and a b, and_le_l a b, and_le_r a b))))
-    (λ e f. omega (arith, or_add_and a b, eqb-true b 0 f))
 
 pub low-zero : (n w : ℕ) → w < 256 ^ n → eqb w 0 ≡ all_zero (low_bytes n w)
 unfolding all_zero

@@ -2,26 +2,42 @@
 use Prim.Native.Nat.{ℕ, zero, suc, ◌+◌, ◌-◌, ◌≤◌, ◌<◌}
 use mathlib.Core.Path.{◌≡◌, refl, sym, ap, ap₂, ◌∙◌}
 use mathlib.Core.Logic.{◌≢◌}
-use mathlib.Core.Bool.{Bool, true, ◌&&◌, and-eq-true_iff}
+use mathlib.Core.Bool.{Bool, true, false, ◌&&◌, and_assoc, and-true, and-eq-true_iff}
 use mathlib.Core.List.{List, [], ◌∷◌, ◌++◌}
 use native.Mathlib.Omega.{arith}
 use lib.ListN.{length, get_or, take, drop, replicate, length-append, length-replicate, take-append-drop}
 use lib.Seq.{take-append_seam, drop-append_seam}
+use lib.Bits.{bit_or, or_add_and, and_le_l, and_le_r}
 use lib.Dec.{eqb}
-use borrow.Author.Tests.{eqb-true}
+use borrow.Author.Tests.{eq-eqb, eqb-true}
 use Rattle.std.proofs.Common.{Option}
 use Rattle.std.proofs.lemmas.Iterator.{index_from_first}
-use Rattle.std.specs.List.{list_all, AllWithin, HoldsAt}
+use Rattle.std.specs.List.{fold, AllWithin, HoldsAt}
 use Rattle.std.specs.Option.{MatchOption, unwrap_or}
 use Rattle.wire.specs.Numbers.{Bytes, bytes_at}
 use Rattle.wire.specs.Zeros.{all_zero, zeros_behind, before_zero}
 use Rattle.wire.proofs.NumberLaws.{bytes_take}
 
--- the definition as `all` computes it
-pub zero-list : (l : List ℕ) → list_all (λ b. eqb b 0) l ≡ all_zero l
+-- two tests that hold alike
+pub same-zero : (a b : ℕ) (t : Bool) → (a ≡ 0 → (b ≡ 0) × (t ≡ true)) → (b ≡ 0 → t ≡ true → a ≡ 0) → eqb a 0 ≡ (eqb b 0 && t)
+same-zero a b t f g = go (eqb a 0) (eqb b 0) t refl refl refl
+  where
+    go : (x y z : Bool) → eqb a 0 ≡ x → eqb b 0 ≡ y → t ≡ z → x ≡ (y && z)
+    go true y z p q r = let w = f (eqb-true a 0 p) in rw (sym q ∙ eq-eqb b 0 w.0, sym r ∙ w.1) refl
+    go false true true p q r = sym p ∙ eq-eqb a 0 (g (eqb-true b 0 q) r)
+    go false true false p q r = refl
+    go false false z p q r = refl
+
+pub or-zero : (a b : ℕ) → eqb (bit_or a b) 0 ≡ (eqb a 0 && eqb b 0)
+or-zero a b =
+    same-zero (bit_or a b) a (eqb b 0) (λ e. (omega (arith, or_add_and a b, and_le_l a b, and_le_r a b), eq-eqb b 0 (omega (arith, or_add_and a b, and_le_l a b, and_le_r a b))))
+    (λ e f. omega (arith, or_add_and a b, eqb-true b 0 f))
+
+-- the bits of all bytes, as a fold gathers them
+pub fold-zero : (s : List ℕ) (a : ℕ) → eqb (fold bit_or a s) 0 ≡ (eqb a 0 && all_zero s)
 unfolding all_zero
-zero-list [] = refl
-zero-list (b ∷ l) = ap (λ (t : Bool). eqb b 0 && t) (zero-list l)
+fold-zero [] a = sym (and-true (eqb a 0))
+fold-zero (b ∷ s) a = fold-zero s (bit_or a b) ∙ ap (λ (t : Bool). t && all_zero s) (or-zero a b) ∙ and_assoc (eqb a 0) (eqb b 0) (all_zero s)
 
 -- ---- zeros behind a list
 
