@@ -3,7 +3,7 @@
 
 pub mod sizes;
 
-// What a range says of a value.
+// What a range says of a value: an enum, as each check of a command answers one, which `let .. else` takes on or leaves.
 #[derive(Clone, Copy)]
 pub enum Range {
     Fits,
