@@ -1,4 +1,5 @@
 // One command carried out on the record in its bytes: judged, carried out, answered.
+// That the bytes are a record in range (`Sound`) is a clause and no type: a struct round lent bytes forgets where they go back to, so each contract would have a clause for that instead.
 #![tactic(auto)]
 
 ghost use Rattle.std.specs.Prelude.{◌≡◌, true, ◌+◌, ◌≤◌, length};

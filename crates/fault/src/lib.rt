@@ -137,7 +137,7 @@ fn check_pairs(s: &[u8]) -> Result<(), u32>
     Ok(())
 }
 
-// Whether a pair stands at a place: zeros before a reading, else finite with the smallest value not above the greatest.
+// Whether a pair stands at a place: zeros before a reading, else finite with the smallest value not above the greatest. `seen` is one bit of the record for all pairs.
 fn pair_fine(s: &[u8], at: usize, seen: bool) -> bool
     requires { at + 8 ≤ length s.now }
     ensures { result ≡ pair_fits seen (pair_at s.now at) }

@@ -16,6 +16,7 @@ pub fn bytes_from<const N: usize>(s: &[u8], at: usize) -> [u8; N]
     bytes
 }
 
+// Two widths, two functions each: the library's conversions are methods of each type, and a trait over two would be longer.
 pub fn four_at(s: &[u8], at: usize) -> u32
     requires { at + 4 ≤ length s.now }
     ensures { low_bytes 4 result ≡ bytes_at 4 s.now at }

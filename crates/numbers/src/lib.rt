@@ -13,6 +13,7 @@ fn word_of(a: u8, b: u8, c: u8, d: u8) -> u32
     (a as u32) * 16777216 + (b as u32) * 65536 + (c as u32) * 256 + (d as u32)
 }
 
+// Two widths, two functions: the library's conversions are methods of each type, and a trait over two would be longer.
 pub fn half_at(s: &[u8], at: usize) -> u16
     requires { at + 2 ≤ length s.now }
     ensures { result ≡ half_at s.now at }

@@ -70,7 +70,7 @@ pub fn above(x: u32, y: u32) -> bool
     false
 }
 
-// A pair with a reading in the place of those of its values that it replaces.
+// A pair with a reading in the place of those of its values that it replaces. Two flags and no Option: both replace by the same value, and stores go by them too.
 pub fn updated(p: Peak, x: u32, raised: bool, lowered: bool) -> Peak
     requires { finite x ≡ true }
     ensures { result ≡ renewed p x raised lowered }

@@ -1,5 +1,6 @@
 // One table for all command numbers, 256 entries for 9n and then 256 for An: each says unknown, not built, or what the
 // command needs of the board and how many parameters it takes. Bit 7 is free.
+// A rule of the project: one constant table of 512 entries; so an entry is a byte, and no struct or enum.
 
 // No command.
 pub const UNKNOWN: u8 = 0x00;

@@ -78,7 +78,7 @@ pub fn check_count(entry: u8, n: usize) -> Counted
     Counted::Right
 }
 
-// Which setting a number reads or sets, of those that are one number; asked of such a number only, so the last is what is left.
+// A rule of the project: in code a command is its number. Which setting a number reads or sets, of those that are one number; asked of such a number only, so the last is what is left.
 pub fn setting_of(number: u8) -> Setting
     ensures { Touched number result }
 {
