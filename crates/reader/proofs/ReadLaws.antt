@@ -123,6 +123,7 @@ module _ (l before : List ℕ) where
         skipped_is = sym (r.skips ∙ rw halts.0 (add-zero (at - framed)));
         unread_is = sym (ap length (r.waits ∙ ap (λ (c : Cut). c.waiting) halts.0) ∙ length-drop at l);
         writes = r.writes ∙ rw all_read refl;
+        fits = (omega (arith, r.fours, r.few, r.within), omega (arith, r.within), omega arith);
       }
 
 -- a candidate whose last byte is not 85: its AA is skipped, and then its head

@@ -24,3 +24,4 @@ pub record ReadsAll (l before : List ℕ) (d : ReadDone) (list : List ℕ) : Typ
   pub skipped_is : d.skipped ≡ (cut reader l).skipped
   pub unread_is : d.unread ≡ length (cut reader l).waiting
   pub writes : list ≡ put before 0 (list_of (read_entries l))
+  pub fits : (d.entries ≤ length l) × (d.skipped ≤ length l) × (d.unread ≤ length l)
