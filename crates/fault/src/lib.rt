@@ -1,5 +1,5 @@
 // The place of the first faulty field of a record, asked for behind the check's no: a function for each group of fields, in record order.
-// The check looks at the same fields with no branch between them, so it and these tests stay apart.
+// The check looks at most of the same fields with no branch between them, so it and these tests stay apart.
 #![tactic(auto)]
 
 ghost use Rattle.std.specs.Prelude.{◌≡◌, ◌+◌, ◌^◌, ◌<◌, ◌≤◌, length};

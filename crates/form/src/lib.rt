@@ -1,5 +1,5 @@
 // Which bytes are a board record: one function for each group of fields, in record order.
-// A group answers yes or no with no branch between its fields, which is quick; crate `fault` tests the same fields one by one, for the first that is bad.
+// Most groups answer with no branch between their fields, which is quick; crate `fault` tests the same fields one by one, for the first that is bad.
 #![tactic(auto)]
 
 ghost use Rattle.std.specs.Prelude.{◌≡◌, true, false, ◌++◌, ◌+◌, ◌*◌, ◌≤◌, ◌<◌, length, take, drop};

@@ -56,7 +56,7 @@ fn decode(rec: &[u8], at: usize) -> Decoded
     }
 }
 
-// Stores the four bytes of a value, if it is taken.
+// Stores the four bytes of a value, if it is taken: a flag and no Option, since the bytes stand in the sample in any case.
 fn put_if(taken: bool, rec: &mut [u8], at: usize, sample: &[u8], from: usize)
     requires { (at + 4 ≤ length rec.old) × (from + 4 ≤ length sample.now) }
     ensures { rec.new ≡ stored taken rec.old at (bytes_at 4 sample.now from) }
