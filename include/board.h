@@ -203,8 +203,8 @@ struct board_reading board_read(const uint8_t *capture, size_t capture_len, uint
  * interrupt; two calls on the same record, or with the same output or list, may not.
  *
  * The archive is x86-64 code for the System V calling convention (SSE2, position independent). It calls
- * memset at most and nothing else, takes byte buffers at any alignment, and was measured to use at most
- * 288 bytes of stack (docs/PERFORMANCE.md; reserve 1,024).
+ * no other function, takes byte buffers at any alignment, and was measured to use at most 288 bytes of
+ * stack (docs/PERFORMANCE.md; reserve 1,024).
  *
  * Another controller. The kit compiles for x86-64 alone. Elsewhere there are two ways, neither proved:
  * compile second/second.c, the same board in plain C11 over the same record, which is compared with the

@@ -6,8 +6,9 @@ use mathlib.Core.List.{List}
 use lib.ListN.{length, get_or, set}
 use lib.Bits.{bit_and, bit_or}
 use Rattle.record.specs.declared.Flag.{Flag}
-use Rattle.record.specs.Record.{flag_of, with_flag, with_flags, with_tries}
-use Rattle.record.specs.Layout.{FlagByte, TriesByte, place, bytes_in, at_flags, at_tries, worth, bit_of}
+use Rattle.record.specs.Record.{with_flags, with_tries}
+use Rattle.record.specs.Flags.{worth, flag_of, with_flag}
+use Rattle.record.specs.Layout.{FlagByte, TriesByte, place, bytes_in, at_flags, at_tries, bit_of}
 use Rattle.record.specs.InPlace.{SoundAt, TurnsAt, ShowsAt}
 use Rattle.record.proofs.Stores.{get-flag_in, set-flag_in, get-tries_in, set-tries_in}
 use Rattle.record.proofs.InPlaceLaws.{turns_at, reaches}

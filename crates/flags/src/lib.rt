@@ -2,8 +2,9 @@
 #![tactic(auto, using(crate::proofs::Turn::flags_there, crate::proofs::Turn::tries_there))]
 
 ghost use Rattle.std.specs.Prelude.{◌≡◌, true, false, ◌+◌, ◌<◌, get_or};
-ghost use Rattle.record.specs.Record.{flag_of, with_flag, with_flags, with_tries};
-ghost use Rattle.record.specs.Layout.{FlagByte, TriesByte, at_flags, at_tries, worth, bit_of};
+ghost use Rattle.record.specs.Record.{with_flags, with_tries};
+ghost use Rattle.record.specs.Flags.{worth, flag_of, with_flag};
+ghost use Rattle.record.specs.Layout.{FlagByte, TriesByte, at_flags, at_tries, bit_of};
 ghost use Rattle.record.specs.InPlace.{SoundAt, TurnsAt, ShowsAt};
 
 use record::Flag;

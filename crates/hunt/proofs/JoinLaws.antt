@@ -110,7 +110,6 @@ module _ (s : List ℕ) (sound : Sound s) where
 -- `held` bytes pending, `total` bytes in the joined head
 pub record Joined (p input head : List ℕ) (held total : ℕ) : Type 0 where
   pub is : held ≡ length p
-  pub few : held ≤ wait_most
   pub sum : total ≡ held + reached input
   pub same : take total head ≡ p ++ take (reached input) input
   pub long : length (take total head) ≡ total
@@ -122,7 +121,6 @@ joined {s} {input} {head} {held} {total} sound is raw =
     let j : Joins p input total head = subst (λ (q : List ℕ). Joins q input total head) (pending-part s sound held is) raw in
     record {
       is = is;
-      few = number_few s sound held is;
       sum = omega (arith, is, j.0);
       same = j.1;
       long = ap length j.1 ∙ length-append p (take (reached input) input) ∙ rw (reach-long (reached input) input (omega arith)) (sym j.0);

@@ -3,6 +3,7 @@
 
 ghost use Rattle.std.specs.Prelude.{◌≡◌, ◌+◌, ◌%◌, max, true, not, T, is_nan, nat_le};
 ghost use Rattle.peak.specs.Pairs.{finite, less};
+ghost use Rattle.peak.specs.Ways.{lesser};
 ghost use Rattle.peak.specs.Floats.{float_of, bits_of, renewed, is_raised, is_lowered};
 
 // The greatest and the smallest value of a channel.
@@ -54,9 +55,10 @@ fn turned(x: u32) -> u32
 }
 
 // Whether x is strictly greater than y: of patterns below zero the smaller one is, and neither of the two zeros. No PartialOrd: no float is compared.
-#[tactic(auto, unfolding(crate::specs::Pairs::key))]
+#[tactic(auto, using(crate::proofs::Patterns::ways))]
 pub fn above(x: u32, y: u32) -> bool
-    ensures { result ≡ less y x }
+    ensures order { result ≡ less y x }
+    ensures ways { result ≡ lesser y x }
 {
     if negative(x) {
         return x < y;

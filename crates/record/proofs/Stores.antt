@@ -14,8 +14,9 @@ use Rattle.wire.proofs.NumberLaws.{length_part, part-all}
 use Rattle.peak.specs.Pairs.{Pair, no_pair, pair_bytes}
 use Rattle.record.specs.declared.Flag.{Flag}
 use Rattle.record.specs.declared.Flag.TheVariants.{Opened, Unlocked, Sending, Reading}
-use Rattle.record.specs.Record.{Flags, Record, flag_of, with_flag, with_output, with_power, with_step, with_mode, with_on_off, with_inputs, with_interval, with_filter, with_name, with_flags, with_tries, with_code, with_settings, with_outputs, with_model, with_pending, with_pairs, with_counter}
-use Rattle.record.specs.Layout.{Part, FlagByte, TriesByte, CodeWord, PowerHalf, StepByte, ModeByte, OnOffByte, InputBytes, OutputByte, IntervalByte, FilterWord, NamePart, ModelPart, PendingPart, PairsPart, CounterHalf, all_parts, has, each, Plan, name_room, width, place, flags_byte, outputs_byte, worth, bit_of, part_bytes, bytes_in}
+use Rattle.record.specs.Record.{Flags, Record, with_output, with_power, with_step, with_mode, with_on_off, with_inputs, with_interval, with_filter, with_name, with_flags, with_tries, with_code, with_settings, with_outputs, with_model, with_pending, with_pairs, with_counter}
+use Rattle.record.specs.Flags.{worth, flag_of, with_flag}
+use Rattle.record.specs.Layout.{Part, FlagByte, TriesByte, CodeWord, PowerHalf, StepByte, ModeByte, OnOffByte, InputBytes, OutputByte, IntervalByte, FilterWord, NamePart, ModelPart, PendingPart, PairsPart, CounterHalf, all_parts, has, each, Plan, name_room, width, place, flags_byte, outputs_byte, bit_of, part_bytes, bytes_in}
 use Rattle.record.proofs.Choices.{masked, bits_back, switch}
 use Rattle.record.proofs.Parts.{part_at, sets-cons, pairs-part, pairs_set}
 use Rattle.record.specs.Laid.{Laid, core_parts}

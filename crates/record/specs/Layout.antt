@@ -7,8 +7,6 @@ use Rattle.wire.specs.Sizes.{wait_most}
 use Rattle.wire.specs.Frames.{Heads}
 use Rattle.wire.specs.Serial.{Fixed, NotHead, fronted, ends_in_85, serial}
 use Rattle.peak.specs.Pairs.{pairs_at, pairs_bytes}
-use Rattle.record.specs.declared.Flag.{Flag}
-use Rattle.record.specs.declared.Flag.TheVariants.{Opened, Unlocked, Sending, Reading}
 use Rattle.record.specs.Record.{Flags, Outputs, Record}
 
 -- ---- the parts that a record can have
@@ -259,13 +257,6 @@ flags_byte f = nibble f.opened f.unlocked f.sending f.reading
 -- "output k in bit k - 1, bits 4 to 7 zero"
 abbrev pub outputs_byte : Outputs → ℕ
 outputs_byte o = nibble o.first o.second o.third o.fourth
-
--- what the bit of a flag is worth in their byte
-abbrev pub worth : Flag → ℕ
-worth Opened = 1
-worth Unlocked = 2
-worth Sending = 4
-worth Reading = 8
 
 -- bit k of a byte, for a divisor 2 ^ k
 abbrev pub bit_of : ℕ → ℕ → Bool

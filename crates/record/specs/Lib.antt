@@ -7,4 +7,5 @@ pub mod Places
 pub mod Form
 pub mod Births
 pub mod Reading
+pub mod Flags
 pub mod InPlace

@@ -1,8 +1,6 @@
 -- What a board record says, as a value without floats.
 use Rattle.std.specs.Prelude.{ℕ, Bool, cond, List, eqb}
 use Rattle.peak.specs.Pairs.{Pair}
-use Rattle.record.specs.declared.Flag.{Flag}
-use Rattle.record.specs.declared.Flag.TheVariants.{Opened, Unlocked, Sending, Reading}
 
 -- configuration mode open, unlocked, sending, reading seen
 pub record Flags : Type 0 where
@@ -54,19 +52,6 @@ with_sending f v = record { opened = f.opened; unlocked = f.unlocked; sending = 
 
 abbrev pub with_reading : Flags → Bool → Flags
 with_reading f v = record { opened = f.opened; unlocked = f.unlocked; sending = f.sending; reading = v }
-
--- the flag of a name
-abbrev pub flag_of : Flags → Flag → Bool
-flag_of f Opened = f.opened
-flag_of f Unlocked = f.unlocked
-flag_of f Sending = f.sending
-flag_of f Reading = f.reading
-
-abbrev pub with_flag : Flags → Flag → Bool → Flags
-with_flag f Opened v = with_opened f v
-with_flag f Unlocked v = with_unlocked f v
-with_flag f Sending v = with_sending f v
-with_flag f Reading v = with_reading f v
 
 -- output k, 1 to 4
 abbrev pub with_output : Outputs → ℕ → Bool → Outputs

@@ -15,7 +15,7 @@ returns-then-above c =
     let l = c.loop-i in
     let a = c.args in
     let at = a.from + 8 * l.i in
-    let order : c.above.result ≡ less (word_at a.s.now at) (word_at a.s.now (at + 4)) = c.above.ensures ∙ rw (c.word_at-greatest.ensures, c.word_at-smallest.ensures) refl in
+    let order : c.above.result ≡ less (word_at a.s.now at) (word_at a.s.now (at + 4)) = c.above.ensures.order ∙ rw (c.word_at-greatest.ensures, c.word_at-smallest.ensures) refl in
     left_out a.s.now a.from channels l.i l.most (omega arith) (sym order ∙ c.if-above.true) ∙ sym l.invariant ∙ left-all a.s.now a.from channels
 
 pub loop-i-preserved : goal.loop-i-preserved
@@ -23,7 +23,7 @@ loop-i-preserved c =
     let l = c.loop-i in
     let a = c.args in
     let at = a.from + 8 * l.i in
-    let order : c.above.result ≡ less (word_at a.s.now at) (word_at a.s.now (at + 4)) = c.above.ensures ∙ rw (c.word_at-greatest.ensures, c.word_at-smallest.ensures) refl in
+    let order : c.above.result ≡ less (word_at a.s.now at) (word_at a.s.now (at + 4)) = c.above.ensures.order ∙ rw (c.word_at-greatest.ensures, c.word_at-smallest.ensures) refl in
     let e = left_in a.s.now a.from channels l.i l.most (omega arith) (sym order ∙ c.if-above.false) in
     let m : c.reach-most.result ≡ max (max l.most (word_at a.s.now at % 0x80000000)) (word_at a.s.now (at + 4) % 0x80000000) = c.reach-most.ensures ∙ rw (c.reach.ensures, c.word_at-greatest.ensures, c.word_at-smallest.ensures) refl in
     l.invariant ∙ e ∙ ap (λ (n : ℕ). ltb n 0x7F800000 && left a.s.now a.from channels (l.i + 1)) (sym m)
